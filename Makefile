@@ -105,10 +105,7 @@ stress: bin/check_stress ## runs random calls of several threads
 # nothing.
 bench: need-python need-cc build bin/bench ## times the library and the programs
 	@$(CC) -O1 -shared -fPIC -o bin/count.so scripts/count.c -ldl
-	@python3 scripts/bench_calls.py bin/bench bin/count.so
-	@python3 scripts/bench_shared.py bin/bench
-	@python3 scripts/bench.py bin/tracing_tree
-	@python3 scripts/bench_rows.py bin/tracing_tree bin/bench
+	@python3 scripts/bench.py
 
 # The worked cases for `faults`: with retracing, with clocks, with messages of two lines, and with a
 # fault of the settings and of a call.

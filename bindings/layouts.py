@@ -13,11 +13,10 @@ from pathlib import Path
 # The size and the alignment of each type that a struct may have as a field.
 PLAIN = {"bool": (1, 1), "u32": (4, 4), "i32": (4, 4), "u64": (8, 8), "i64": (8, 8), "*mut u8": (8, 8), "&'a [u8]": (16, 8)}
 
-# The names of the structs in C and in Rust, and the fields that have another name there.
+# The names of the structs in C and in Rust.
 NAMES = {"Tree": ("tt_tree", "RawTree"), "FieldRef": ("tt_field", "Field"), "SettingsRef": ("tt_settings", "Settings"),
          "ContextRef": ("tt_context", "Context"), "AttributesRef": ("tt_attributes", "Attributes"),
          "EventRef": ("tt_event_ref", "Event"), "TimeRef": ("tt_time", "Time")}
-FIELDS = {("Tree", "inner"): "inside"}
 
 HEADS = ["""// Made by bindings/layouts.py from the declarations of the proved crate. It only has to compile.
 
@@ -66,7 +65,7 @@ def main():
     say("tt_text_ref" if in_c else "Text", 16, [("at", 0), ("len", 8)])
     for name, called in NAMES.items():
         size, _, offsets = laid_out(structs, name)
-        say(called[0 if in_c else 1], size, [(FIELDS.get((name, field), field), at) for field, at in offsets])
+        say(called[0 if in_c else 1], size, offsets)
 
 
 main()

@@ -13,7 +13,7 @@ such as `IsRunOf`. The output has these parts:
 - The other imported names, of these types and of the toolchain's library, with their modules.
 - 'N lines, M definitions'. The contract, comments, blank lines and types aren't counted.
 
---count only prints the last line. --check compares the counts in docs/PROVED.md with the current
+--count only prints the last line. --check compares the counts in docs/proofs/what-is-proved.md with the current
 ones."""
 import argparse, collections, difflib, glob, os, re, sys
 
@@ -320,14 +320,14 @@ def show(start, found, words):
 
 
 def check(definitions, functions):
-    """Compares the counts in docs/PROVED.md with the current ones. Returns how many differ."""
-    rows = re.findall(r"(?m)`make claim NAME=(\S+)` \| (\d+) lines, (\d+) definitions", read(f"{TOP}/docs/PROVED.md"))
+    """Compares the counts in docs/proofs/what-is-proved.md with the current ones. Returns how many differ."""
+    rows = re.findall(r"(?m)`make claim NAME=(\S+)` \| (\d+) lines, (\d+) definitions", read(f"{TOP}/docs/proofs/what-is-proved.md"))
     differ = 0
     for name, lines, count in rows:
         found, _ = rests_on(find(name, definitions, functions), definitions)
         is_well = (int(lines), int(count)) == (lines_of(found), len(found))
         differ += not is_well
-        now = "" if is_well else f"FAILED: docs/PROVED.md says {lines} lines, {count} definitions, and now it is "
+        now = "" if is_well else f"FAILED: docs/proofs/what-is-proved.md says {lines} lines, {count} definitions, and now it is "
         print(f"claim {name}: {now}{lines_of(found)} lines, {len(found)} definitions")
     print(f"claims: {len(rows) - differ} passed, {differ} failed")
     return differ if rows else 1

@@ -60,6 +60,7 @@ step "what the examples draw" cmp "$drawn" bindings/c/server.out
 # ---- the programs
 bin=$unpacked/bin
 runs "the programs of calls" scripts/program.sh "$bin/tracing_tree" "$bin/tracing_tree_read"
+runs "the cases of ttree" scripts/cases.py "$bin/ttree"
 runs "ttree" scripts/ttree.sh "$bin/ttree" "$bin/tracing_tree"
 
 # ---- C and C++

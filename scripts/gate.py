@@ -147,6 +147,7 @@ class Gate:
         self.programs("scripts/fuzz.py", "tracing_tree_cli", "tracing_tree_read", more=asked)
         self.programs("scripts/fuzz_formats.py", "ttree", more=["--inputs", "2000"])
         self.programs("scripts/program.sh", "tracing_tree_cli", "tracing_tree_read")
+        self.programs("scripts/cases.py", "ttree")
         self.programs("scripts/ttree.sh", "ttree", "tracing_tree_cli")
         self.programs("scripts/page.py", "ttree", "tracing_tree_cli")
         self.programs("scripts/manual.py", "ttree", "tracing_tree_cli", "tracing_tree_read")

@@ -1,7 +1,7 @@
 #!/usr/bin/env python3
 """Converts lines of `go test -json` to lines of calls: go_lines.py [--failed] < INPUT > LINES
 
-It was written only from 'Go's tests' and 'What failed' in docs/FORMATS.md. The tests draw these
+It was written only from 'Go's tests' and 'What failed' in docs/reference/formats.md. The tests draw these
 lines and compare the tree with that of `ttree`. `go_lines.py --random SEED` writes lines of Go's
 tests in random order."""
 import json, random, re, sys
@@ -135,7 +135,7 @@ class Run:
         self.open(one)
         return self.event(LEVELS[ending], f"{ending} {own_name(one.test, test)}", elapsed_of(elapsed), one.span)
 
-    def tell_build(self, level, package):
+    def emit_build(self, level, package):
         """Writes what a build printed."""
         texts = self.builds.pop(package, None)
         if texts is None:
@@ -152,7 +152,7 @@ class Run:
         action, test = line["Action"], line.get("Test", "")
         if action == "build-output":
             return self.builds.setdefault(package, []).append(line["Output"])
-        self.tell_build("ERROR" if action == "build-fail" else "WARN", package)
+        self.emit_build("ERROR" if action == "build-fail" else "WARN", package)
         if action == "run":
             one = self.owner(package, test)
             if test and one.test == test:
@@ -203,7 +203,7 @@ class Run:
                 else:
                     self.close(one)
         for package in sorted(self.builds, key=str.encode):
-            self.tell_build("WARN", package)
+            self.emit_build("WARN", package)
             self.close(self.owner(package, ""))
 
     def close(self, one):

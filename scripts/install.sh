@@ -46,19 +46,22 @@ files() {
 644 docs/manual/tap.md share/doc/tracing_tree/docs/manual/tap.md
 644 docs/manual/threads.md share/doc/tracing_tree/docs/manual/threads.md
 644 docs/manual/ttree.md share/doc/tracing_tree/docs/manual/ttree.md
-644 docs/ARCHITECTURE.md share/doc/tracing_tree/docs/ARCHITECTURE.md
-644 docs/DIFFERENCES.md share/doc/tracing_tree/docs/DIFFERENCES.md
-644 docs/FORMATS.md share/doc/tracing_tree/docs/FORMATS.md
-644 docs/MODEL.md share/doc/tracing_tree/docs/MODEL.md
-644 docs/PAGE.md share/doc/tracing_tree/docs/PAGE.md
-644 docs/PROVED.md share/doc/tracing_tree/docs/PROVED.md
+644 docs/reference/formats.md share/doc/tracing_tree/docs/reference/formats.md
+644 docs/reference/glossary.md share/doc/tracing_tree/docs/reference/glossary.md
+644 docs/reference/pages.md share/doc/tracing_tree/docs/reference/pages.md
+644 docs/proofs/definitions.md share/doc/tracing_tree/docs/proofs/definitions.md
+644 docs/proofs/reading-a-claim.md share/doc/tracing_tree/docs/proofs/reading-a-claim.md
+644 docs/proofs/tested-only.md share/doc/tracing_tree/docs/proofs/tested-only.md
+644 docs/proofs/what-is-proved.md share/doc/tracing_tree/docs/proofs/what-is-proved.md
+644 docs/proofs/wrong-bodies.md share/doc/tracing_tree/docs/proofs/wrong-bodies.md
+644 docs/design/architecture.md share/doc/tracing_tree/docs/design/architecture.md
+644 docs/design/differences.md share/doc/tracing_tree/docs/design/differences.md
 644 docs/design/decisions/README.md share/doc/tracing_tree/docs/design/decisions/README.md
 644 docs/design/decisions/c.md share/doc/tracing_tree/docs/design/decisions/c.md
 644 docs/design/decisions/chrome.md share/doc/tracing_tree/docs/design/decisions/chrome.md
 644 docs/design/decisions/clocks.md share/doc/tracing_tree/docs/design/decisions/clocks.md
 644 docs/design/decisions/crates.md share/doc/tracing_tree/docs/design/decisions/crates.md
 644 docs/design/decisions/drawing.md share/doc/tracing_tree/docs/design/decisions/drawing.md
-644 docs/design/decisions/edits.md share/doc/tracing_tree/docs/design/decisions/edits.md
 644 docs/design/decisions/formats.md share/doc/tracing_tree/docs/design/decisions/formats.md
 644 docs/design/decisions/go-test.md share/doc/tracing_tree/docs/design/decisions/go-test.md
 644 docs/design/decisions/junit.md share/doc/tracing_tree/docs/design/decisions/junit.md
@@ -72,7 +75,11 @@ files() {
 644 docs/design/decisions/tap.md share/doc/tracing_tree/docs/design/decisions/tap.md
 644 docs/design/decisions/threads.md share/doc/tracing_tree/docs/design/decisions/threads.md
 644 docs/design/decisions/tracer.md share/doc/tracing_tree/docs/design/decisions/tracer.md
-644 docs/reference/glossary.md share/doc/tracing_tree/docs/reference/glossary.md
+644 docs/developing/adding-things.md share/doc/tracing_tree/docs/developing/adding-things.md
+644 docs/developing/gate.md share/doc/tracing_tree/docs/developing/gate.md
+644 docs/developing/performance.md share/doc/tracing_tree/docs/developing/performance.md
+644 docs/developing/setup.md share/doc/tracing_tree/docs/developing/setup.md
+644 docs/developing/testing.md share/doc/tracing_tree/docs/developing/testing.md
 644 docs/tree.svg share/doc/tracing_tree/docs/tree.svg
 644 bindings/README.md share/doc/tracing_tree/bindings/README.md
 FILES
@@ -94,6 +101,7 @@ FILES
 
 # Folders that are removed if they are empty. The others may have been there before.
 FOLDERS='share/doc/tracing_tree/docs/manual share/doc/tracing_tree/docs/reference
+share/doc/tracing_tree/docs/proofs share/doc/tracing_tree/docs/developing
 share/doc/tracing_tree/docs/design/decisions share/doc/tracing_tree/docs/design
 share/doc/tracing_tree/docs share/doc/tracing_tree/bindings
 share/doc/tracing_tree'

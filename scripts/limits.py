@@ -5,7 +5,7 @@ usage: limits.py [--checked] DRAWING_PROGRAM READING_PROGRAM TTREE
 
 The limits are memory, the stack, the size of a file, a full device and a full disk. There are also
 pipes whose reader stops, is slow or reads nothing, with SIGPIPE ignored or not. The output must be
-a prefix of the right output. It must end as docs/FORMATS.md says for the reported line and word,
+a prefix of the right output. It must end as docs/reference/formats.md says for the reported line and word,
 and the status must be that of the word. scripts/model.py and scripts/model_rows.py compute the
 right outputs. For TTREE the right output is what it writes without a limit.
 

@@ -5,7 +5,8 @@ A `console` block in docs/manual has commands, each after `$ `, and after each i
 error too. The commands run in a temporary folder that has the examples. They name the programs
 `ttree`, `tracing_tree` and `tracing_tree_read`, which are the arguments in this order. A command
 that needs a proof isn't run: its output must be the file in RECORDED. The gate or the bindings'
-tests compare what the program prints with that file. The files that the pages link to must exist.
+tests compare what the program prints with that file. The files to which the manual and all other
+pages link must exist.
 --write puts the current output into the pages, for a person to review and commit. The last line is
 'manual: N of M runs ended as they must'."""
 
@@ -27,6 +28,9 @@ RECORDED = {
     "cc bindings/c/server.c -Ibindings/c bin/libtracing_tree.a -o server && ./server": "bindings/c/server.out",
 }
 LINK = re.compile(r"\]\(([^)#:]+)[^):]*\)")
+# The pages whose links are checked and whose commands aren't run.
+OTHER_PAGES = sorted({*TOP.glob("*.md"), *TOP.glob("bindings/**/README.md"), *(TOP / "docs").rglob("*.md")}
+                     - {*(TOP / "docs" / "manual").glob("*.md")})
 SECONDS = 300
 
 
@@ -76,13 +80,17 @@ def run_page(path, folder, is_written):
     filled = BLOCK.sub(run_block, text)
     if is_written:
         path.write_text(filled, encoding="utf-8")
-    for link in LINK.findall(text):
-        runs += 1
-        if (path.parent / link).exists():
-            passed += 1
-        else:
-            print(f"manual: {path.relative_to(TOP)}: {link}: FAILED: there is no such file")
-    return passed, runs
+    found = check_links(path)
+    return passed + found[0], runs + found[1]
+
+
+def check_links(path):
+    """Returns how many of a page's links lead to a file, and how many there are."""
+    links = LINK.findall(path.read_text(encoding="utf-8"))
+    lost = [it for it in links if not (path.parent / it).exists()]
+    for it in lost:
+        print(f"manual: {path.relative_to(TOP)}: {it}: FAILED: there is no such file")
+    return len(links) - len(lost), len(links)
 
 
 def main():
@@ -94,6 +102,9 @@ def main():
         for path in sorted((TOP / "docs" / "manual").glob("*.md")):
             found = run_page(path, folder, is_written)
             passed, runs = passed + found[0], runs + found[1]
+    for path in OTHER_PAGES:
+        found = check_links(path)
+        passed, runs = passed + found[0], runs + found[1]
     print(f"manual: {passed} of {runs} runs ended as they must")
     return 0 if passed == runs and runs else 1
 

@@ -1,6 +1,6 @@
 #!/usr/bin/env python3
-"""Computes what the program must write for an input. It was written only from docs/FORMATS.md and
-docs/MODEL.md.
+"""Computes what the program must write for an input. It was written only from docs/reference/formats.md and
+docs/proofs/definitions.md.
 
 usage: model.py < INPUT      writes the drawing and the fault line, and exits with the status, as
                              the program does

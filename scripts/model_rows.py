@@ -1,6 +1,6 @@
 #!/usr/bin/env python3
 """Computes what the reading program must write for a drawing. It was written only from 'Rows and
-their reader' and 'The reading program' in docs/FORMATS.md.
+their reader' and 'The reading program' in docs/reference/formats.md.
 
 usage: model_rows.py [AMOUNT] < DRAWING      writes the lines of JSON and the fault line, and exits
                                              with the status, as the program does

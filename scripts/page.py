@@ -1,5 +1,5 @@
 #!/usr/bin/env python3
-"""Compares the pages and the JSON lines of ttree with docs/PAGE.md: page.py TTREE DRAWING_PROGRAM
+"""Compares the pages and the JSON lines of ttree with docs/reference/pages.md: page.py TTREE DRAWING_PROGRAM
 
 For each input, the page's bytes before and after the data must be those of viewer/build.py. Each
 line of the data must be what viewer/pages.py writes for its values, without `<` and control

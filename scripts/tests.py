@@ -5,11 +5,11 @@
 `rt try --test` runs the tests of each crate. It compiles the current sources with runtime checks.
 The programs are compiled in the same way (scripts/unproved.py), and these scripts run them:
 
-- scripts/program.sh and scripts/ttree.sh run the programs as users do.
+- scripts/program.sh, scripts/cases.py and scripts/ttree.sh run the programs as users do.
 - scripts/fuzz.py compares them on random lines with a model that was written only from the docs
   (scripts/model.py).
 - scripts/limits.py runs them with files and pipes that end.
-- scripts/page.py compares the pages of ttree with docs/PAGE.md.
+- scripts/page.py compares the pages of ttree with docs/reference/pages.md.
 - scripts/manual.py runs the manual's commands.
 - scripts/controls.py draws inputs that are full of control characters.
 - scripts/tracing_paths.py compares the spans of drawn events with those in the logs.
@@ -17,8 +17,9 @@ The programs are compiled in the same way (scripts/unproved.py), and these scrip
   `make install` on a copy.
 
 scripts/messages.py compares what targets and scripts say if a tool is missing. The docs and the
-viewer are compared with their sources, and each edit of must-fail/ must apply. None of this shows that a function does only
-what its contract says: `make gate` does, and runs the proved tests, cases and programs.
+viewer are compared with their sources, and each edit of must-fail/ must apply. None of this shows
+that a function does only what its contract says: `make gate` does, and runs the proved tests, cases
+and programs.
 
 The library for C has no build without its proofs, which take longer than all the tests. Its tests
 and those of the Rust crate run if a check on this machine has proved the current sources of the
@@ -36,6 +37,7 @@ LOGS = tuple(f"examples/{it}.jsonl" for it in ("tracing", "tracing-flat", "traci
 # The scripts that run them, with their arguments.
 RUNS = (
     ("scripts/program.sh", "--checked", "tracing_tree_cli", "tracing_tree_read"),
+    ("scripts/cases.py", "ttree"),
     ("scripts/ttree.sh", "--checked", "ttree", "tracing_tree_cli"),
     ("scripts/page.py", "ttree", "tracing_tree_cli"),
     ("scripts/manual.py", "ttree", "tracing_tree_cli", "tracing_tree_read"),

@@ -1,4 +1,4 @@
-"""Writes pages as docs/PAGE.md says, from calls that are dictionaries. The tests compare with it, so
+"""Writes pages as docs/reference/pages.md says, from calls that are dictionaries. The tests compare with it, so
 it shares no code with the program."""
 
 import json

@@ -319,11 +319,11 @@ static void nulls(void) {
   uint64_t id = 77;
   bool went = true;
   check(tt_new(NULL, &settings) == TT_NULL && tt_new(&tree, NULL) == TT_NULL && drew(&tree, "┐a \n"), "NULL to tt_new", 0);
-  const tt_attributes *attributes[] = {&whole, NULL, &no_name, &no_target, &whole, &whole, &whole, &whole, &whole};
-  const tt_field *fields[] = {&field, &field, &field, &field, NULL, &nameless, &valueless, &field, &field};
-  const tt_context *contexts[] = {&NOWHERE, &NOWHERE, &NOWHERE, &NOWHERE, &NOWHERE, &NOWHERE, &NOWHERE, NULL, &named};
-  const tt_event_ref *events[] = {&event, NULL, &bare, &bare, &event, &event, &event, &event, &event};
-  for (int i = 0; i < 9; i++) {
+  const tt_attributes *attributes[] = {&whole, NULL, &no_name, &no_target, &whole, &whole, &whole, &whole};
+  const tt_field *fields[] = {&field, &field, &field, &field, NULL, &nameless, &valueless, &field};
+  const tt_context *contexts[] = {&NOWHERE, &NOWHERE, &NOWHERE, &NOWHERE, &NOWHERE, &NOWHERE, &NOWHERE, &named};
+  const tt_event_ref *events[] = {&event, NULL, &bare, &bare, &event, &event, &event, &event};
+  for (int i = 0; i < 8; i++) {
     tt_tree *there = i == 0 ? NULL : &tree;
     check(tt_clone_span(&tree, 1) == TT_OK && tt_close(&tree, 1, &NOWHERE, &went) == TT_OK && !went, "the tree goes on", i);
     went = true;
@@ -339,12 +339,165 @@ static void nulls(void) {
   check(tt_event_timed(&tree, NULL, &event, &field, 1, &NOWHERE) == TT_NULL &&
         tt_event_timed(&tree, &no_moment, &event, &field, 1, &NOWHERE) == TT_NULL &&
         tt_event_timed(&tree, &no_elapsed, &event, &field, 1, &NOWHERE) == TT_NULL &&
-        tt_event_timed(&tree, &timer, &event, &field, 1, NULL) == TT_NULL && drew(&tree, ""), "NULL to a timed event", 0);
+        tt_event_timed(NULL, &timer, &event, &field, 1, &NOWHERE) == TT_NULL && drew(&tree, ""), "NULL to a timed event", 0);
+  check(tt_enter(NULL, 1) == TT_NULL && tt_exit(NULL, 1) == TT_NULL && tt_current(NULL) == 0, "NULL to an entry", 0);
+  check(tt_here(NULL).current == 0 && tt_here(NULL).thread_name.at, "the context of no tree", 0);
   check(id == 77 && went, "NULL hands nothing out", 0);
   check(tt_event(&tree, &event, NULL, 0, &nameless_thread) == TT_OK && drew(&tree, "├─ INFO\n"), "no fields, and no name of a thread", 0);
   check(tt_text(&tree, NULL, 5) == 12 && tt_text(NULL, NULL, 0) == 0, "the length of a text", 0);
   check(tt_close(&tree, 1, &nameless_thread, &went) == TT_OK && went && drew(&tree, "┘\n"), "what was refused changed nothing", 0);
   tt_free(NULL);
+  tt_free(&tree);
+}
+
+/* ---- entered spans */
+
+/* Makes each call in the current span, without a context. */
+static void calls_without_a_context(void) {
+  tt_tree tree = started();
+  tt_attributes child = {tt_str("b"), tt_str(""), 0, TT_CURRENT};
+  tt_event_ref event = {tt_str(""), 0, TT_CURRENT, TT_INFO};
+  tt_field message = {tt_str("message"), tt_str("x")};
+  tt_timer timer = {shown, shown, (void *)"T"};
+  uint64_t id = 0;
+  bool went = false;
+  check(tt_current(&tree) == 0 && tt_event(&tree, &event, &message, 1, NULL) == TT_OK && drew(&tree, "INFO x\n"), "in no span", 0);
+  check(tt_enter(&tree, 1) == TT_OK && drew(&tree, "") && tt_current(&tree) == 1, "an entry", 0);
+  check(tt_event(&tree, &event, &message, 1, NULL) == TT_OK && drew(&tree, "├─ INFO x\n"), "an event in the entered span", 0);
+  check(tt_new_span(&tree, &child, NULL, 0, NULL, &id) == TT_OK && id == 2 && drew(&tree, "└─┐b \n"), "a span in the entered span", 0);
+  check(tt_enter(&tree, id) == TT_OK && tt_current(&tree) == 2, "an entry in an entry", 0);
+  check(tt_event(&tree, &event, &message, 1, NULL) == TT_OK && drew(&tree, "  ├─ INFO x\n"), "an event in the inner span", 0);
+  check(tt_event(&tree, &event, &message, 1, &NOWHERE) == TT_OK && drew(&tree, "INFO x\n"), "a context comes before the entries", 0);
+  check(tt_close(&tree, id, NULL, &went) == TT_OK && went && drew(&tree, "┌─┘\n"), "a close without a context", 0);
+  check(tt_current(&tree) == 1 && drew(&tree, "┌─┘\n"), "a closed span is passed over", 0);
+  check(tt_exit(&tree, id) == TT_OK && drew(&tree, ""), "an exit after the close", 0);
+  nothing_drawn(&tree, tt_exit(&tree, id), TT_NOT_HELD, "an exit without an entry", 0);
+  check(tt_event_timed(&tree, &timer, &event, &message, 1, NULL) == TT_OK && drew(&tree, "├─T T INFO x\n"), "a timed event", 0);
+  tt_free(&tree);
+  check(tt_enter(&tree, 1) == TT_MISSING && tt_exit(&tree, 1) == TT_MISSING && tt_current(&tree) == 0, "entries of no tree", 0);
+  check(tt_event(&tree, &event, &message, 1, NULL) == TT_MISSING, "an event of no tree, without a context", 0);
+  tree = started();
+  check(tt_current(&tree) == 0 && tt_exit(&tree, 1) == TT_NOT_HELD, "a new tree has no entries", 0);
+  tt_free(&tree);
+}
+
+static void entries_that_are_refused(void) {
+  static const uint64_t ids[] = {0, 2, 99, UINT64_MAX};
+  tt_tree tree = started();
+  uint32_t status;
+  for (int i = 0; i < 4; i++) {
+    nothing_drawn(&tree, tt_enter(&tree, ids[i]), TT_NOT_HELD, "an entry into no span", i);
+    nothing_drawn(&tree, tt_exit(&tree, ids[i]), TT_NOT_HELD, "an exit of no span", i);
+    check(tt_current(&tree) == 0, "a refused entry changes nothing", i);
+  }
+  counting = true;
+  asked = 0;
+  refused_at = 1;
+  status = tt_enter(&tree, 1);
+  counting = false;
+  nothing_drawn(&tree, status, TT_NO_MEMORY, "an entry without memory", 0);
+  check(tt_current(&tree) == 0, "an entry without memory changes nothing", 0);
+  check(tt_enter(&tree, 1) == TT_OK && tt_current(&tree) == 1, "the entry again", 0);
+  tt_free(&tree);
+}
+
+/* Compares random entries and exits with the stack of the registry of Rust's tracing: an entry into
+ * a span that is entered is marked, and doesn't count. */
+static void random_entries(void) {
+  enum { SPANS = 5, MOST = 40 };
+  struct { uint64_t id; bool again; } stack[MOST];
+  size_t depth = 0, entries = 0, exits = 0;
+  uint32_t random = 1;
+  tt_tree tree = started();
+  tt_attributes child = {tt_str("b"), tt_str(""), 0, TT_ROOT};
+  for (uint64_t id = 0; id < SPANS;) check(tt_new_span(&tree, &child, NULL, 0, NULL, &id) == TT_OK, "a span to enter", (long)id);
+  for (long step = 0; step < 2000; step++) {
+    size_t i, top = depth;
+    uint64_t id, current = 0;
+    random = random * 1664525 + 1013904223;
+    id = 1 + (random >> 16) % SPANS;
+    if (depth < MOST && (random >> 28) % 2) {
+      bool again = false;
+      for (i = 0; i < depth; i++) again |= stack[i].id == id;
+      stack[depth].id = id;
+      stack[depth++].again = again;
+      entries++;
+      if (tt_enter(&tree, id) != TT_OK) check(false, "a random entry", step);
+    } else {
+      while (top > 0 && stack[top - 1].id != id) top--;
+      if (tt_exit(&tree, id) != (top > 0 ? TT_OK : TT_NOT_HELD)) check(false, "a random exit", step);
+      for (i = top; top > 0 && i < depth; i++) stack[i - 1] = stack[i];
+      if (top > 0) depth--, exits++;
+    }
+    for (i = 0; i < depth; i++) current = stack[i].again ? current : stack[i].id;
+    check(tt_current(&tree) == current, "the current span", step);
+  }
+  check(entries > 500 && exits > 500, "random entries and exits", (long)exits);
+  tt_free(&tree);
+}
+
+/* ---- values of fields */
+
+static void values_of_fields(void) {
+  static const struct {
+    const char *text, *shown;
+  } strings[] = {
+      {"", "\"\""}, {"plain", "\"plain\""}, {"a \"b\" \\", "\"a \\\"b\\\" \\\\\""}, {"\t\n\r'", "\"\\t\\n\\r'\""},
+      {"\x01\x1f\x7f ~", "\"\\u{1}\\u{1f}\\u{7f} ~\""}, {"é┐😀", "\"é┐😀\""},
+  };
+  static const int64_t ints[] = {0, 7, -1, INT64_MAX, INT64_MIN};
+  static const char *const whole[] = {"0", "7", "-1", "9223372036854775807", "-9223372036854775808"};
+  char room[64];
+  for (int i = 0; i < 6; i++) {
+    size_t length = strlen(strings[i].shown);
+    for (size_t size = 0; size <= length + 1; size++) {
+      tt_values values = tt_values_in(room, size);
+      tt_text_ref value = tt_string(&values, tt_str(strings[i].text));
+      if (size < length) check(!value.at && values.used == 0, "a string that doesn't fit", (long)size);
+      else check(value.len == length && memcmp(value.at, strings[i].shown, length) == 0 && values.used == length, "a string in quotes", i);
+    }
+  }
+  for (int i = 0; i < 5; i++) {
+    tt_values values = tt_values_in(room, sizeof room);
+    tt_text_ref value = tt_int(&values, ints[i]);
+    check(value.len == strlen(whole[i]) && memcmp(value.at, whole[i], value.len) == 0, "a whole number", i);
+  }
+  {
+    tt_values values = tt_values_in(room, 20 + 4 + 5), zero = tt_values_in(room + 40, 1);
+    tt_text_ref a = tt_uint(&values, UINT64_MAX), b = tt_bool(&values, true), c = tt_bool(&values, false), d = tt_uint(&values, 0);
+    tt_text_ref nul = tt_string(&values, tt_bytes("", 1)), one = tt_uint(&zero, 7);
+    check(a.len == 20 && memcmp(room, "18446744073709551615truefalse", 29) == 0, "values one after another", 0);
+    check((const char *)b.at == room + 20 && (const char *)c.at == room + 24 && c.len == 5 && !d.at && !nul.at, "a value in no memory", 0);
+    check(one.len == 1 && room[40] == '7', "a digit in a byte", 0);
+    check(tt_debug("Some(3)").len == 7 && tt_debug(NULL).len == 0, "a value in its debug form", 0);
+  }
+  {
+    tt_values values = tt_values_in(room, sizeof room);
+    tt_text_ref nul = tt_string(&values, tt_bytes("", 1));
+    check(nul.len == 4 && memcmp(nul.at, "\"\\0\"", 4) == 0, "a NUL in quotes", 0);
+  }
+}
+
+static void values_that_are_refused(void) {
+  static const tt_text_ref null = {NULL, 0};
+  tt_tree tree = started();
+  char room[16];
+  tt_values none = tt_values_in(NULL, 8), small = tt_values_in(room, 3), large = tt_values_in(room, sizeof room);
+  tt_event_ref event = {tt_str(""), 0, TT_ROOT, TT_INFO};
+  tt_field field = {tt_str("n"), tt_string(&small, tt_str("ab"))};
+  nothing_drawn(&tree, tt_event(&tree, &event, &field, 1, NULL), TT_NULL, "a value that didn't fit", 0);
+  check(!tt_bool(&none, true).at && !tt_int(NULL, 1).at && !tt_uint(NULL, 1).at && !tt_string(NULL, tt_str("")).at &&
+        !tt_string(&large, null).at && large.used == 0, "values in no memory", 0);
+  field.value = tt_string(&large, tt_bytes(BAD, 2));
+  nothing_drawn(&tree, tt_event(&tree, &event, &field, 1, NULL), TT_NOT_UTF8, "a value that isn't UTF-8", 0);
+  counting = true;
+  asked = 0;
+  refused_at = 1;
+  field.value = tt_string(&large, tt_str("a"));
+  counting = false;
+  check(!field.value.at && large.used == 4, "a value without memory", 0);
+  field.value = tt_string(&large, tt_str("a"));
+  check(tt_event(&tree, &event, &field, 1, NULL) == TT_OK && drew(&tree, "INFO n=\"a\"\n"), "a value", 0);
   tt_free(&tree);
 }
 
@@ -487,6 +640,11 @@ int main(void) {
   texts_of_nothing();
   spans_that_are_none();
   nulls();
+  calls_without_a_context();
+  entries_that_are_refused();
+  random_entries();
+  values_of_fields();
+  values_that_are_refused();
   timers();
   trees_that_are_none();
   rooms();

@@ -6,6 +6,10 @@
  *     .. a call, and after each call that may draw: tt_write(&tree, stdout) ..
  *     tt_free(&tree);
  *
+ * Current span. `tt_enter` makes a span the current span of the calls whose context is NULL, and
+ * `tt_exit` ends that. So a service passes no ids and no contexts. If it shows threads or times, it
+ * passes contexts.
+ *
  * Output. What a call draws is its output. `tt_write` writes the output of the last call to a
  * stream, and `tt_text` copies it.
  *
@@ -29,18 +33,21 @@
  * - No function is called from a signal handler, or in the forked child of a process with threads.
  *
  * NULL. A call that is passed NULL returns `TT_NULL`, also if a string's address is NULL and its
- * length is 0. `tt_bytes` and `tt_str` return the empty string for NULL. `fields` may be NULL if
- * `field_count` is 0. `room` may be NULL to get only the length. The address of `thread_name` may
- * be NULL if `has_thread_name` is false. `data` of a `tt_timer` may be NULL.
+ * length is 0. `tt_bytes` and `tt_str` return the empty string for NULL. `context` may be NULL: it
+ * means `tt_here`. `fields` may be NULL if `field_count` is 0. `room` may be NULL to get only the
+ * length. The address of `thread_name` may be NULL if `has_thread_name` is false. `data` of a
+ * `tt_timer` may be NULL.
  *
  * Threads. A call may come from any thread. But a tree serves one call at a time, including
  * `tt_write`, `tt_text` and `tt_free`. Callers on several threads hold a lock around each call
- * together with its `tt_write` or `tt_text`. Different trees share nothing. It is proved that a tree may move from one thread
- * to another.
+ * together with its `tt_write` or `tt_text`. They pass contexts, since the entered spans belong to
+ * the tree, not to a thread. Different trees share nothing. It is proved that a tree may move from
+ * one thread to another.
  *
  * Ownership. The tree owns its memory, and `tt_free` returns it. No function keeps a pointer that
  * it was passed: strings, fields and settings are copied, or no longer needed when the call
- * returns.
+ * returns. A value of a field (`tt_string` and the like) is in memory of the caller, so nothing has
+ * to be freed.
  *
  * Memory. A call that returns `TT_NO_MEMORY` changes nothing, except as described at the statuses.
  * If the same call is made again with enough memory, it does what it would have done the first
@@ -77,7 +84,8 @@ extern "C" {
  * `TT_TIMER` and `TT_FAILED` don't occur in this version: each timer can show every moment. */
 enum {
   TT_OK = 0,
-  TT_NOT_HELD = 1,  /* a span that the call names isn't live, or has no handle left to close */
+  TT_NOT_HELD = 1,  /* a span that the call names isn't live, has no handle left to close, or has no
+                       entry left to exit */
   TT_TOO_WIDE = 2,  /* a row's indent is above 2^64 - 1 columns */
   TT_TOO_MANY = 3,  /* no id, or no further handle of this span, is left */
   TT_NO_MEMORY = 4, /* out of memory; the call may be made again */
@@ -220,6 +228,13 @@ uint32_t tt_raw_event(tt_tree *tree, const tt_event_ref *event, const tt_field *
 uint32_t tt_raw_close(tt_tree *tree, uint64_t id, const tt_context *context, bool *went);
 uint32_t tt_raw_set_time(tt_tree *tree, const tt_time *time);
 size_t tt_raw_text(tt_tree *tree, uint8_t *room, size_t size);
+uint32_t tt_raw_enter(tt_tree *tree, uint64_t id);
+uint32_t tt_raw_exit(tt_tree *tree, uint64_t id);
+uint64_t tt_raw_current(tt_tree *tree);
+size_t tt_raw_string(const uint8_t *text, size_t len, uint8_t *room, size_t size);
+size_t tt_raw_int(int64_t value, uint8_t *room, size_t size);
+size_t tt_raw_uint(uint64_t value, uint8_t *room, size_t size);
+size_t tt_raw_bool(bool value, uint8_t *room, size_t size);
 
 /* For a caller whose strings are always UTF-8, as in a language with a UTF-8 string type. These
  * functions don't check the strings and never return TT_NOT_UTF8. If a string isn't UTF-8, nothing
@@ -293,6 +308,20 @@ static inline uint32_t tt_refuse_null(tt_tree *tree) {
  * after it has set its strings.) `tt_free` does nothing if `tree` is NULL, and `tt_text` returns
  * 0. */
 
+/* Returns the id of the current span: the innermost entered span that is live. Returns 0 if there
+ * is no such span, and if the tree is missing. The output stays. */
+static inline uint64_t tt_current(tt_tree *tree) { return tree ? tt_raw_current(tree) : 0; }
+
+/* Returns the context of a call whose context is NULL: in the current span, by a thread without a
+ * name and a number, at time 0. */
+static inline tt_context tt_here(tt_tree *tree) {
+  tt_context here;
+  memset(&here, 0, sizeof here);
+  here.current = tt_current(tree);
+  here.thread_name = tt_bytes(NULL, 0);
+  return here;
+}
+
 /* Makes a tree without spans, if `tree` is missing.
  *   TT_OK         the tree is made; `tt_free` must free it
  *   TT_THERE      there is a tree already, which is unchanged
@@ -325,10 +354,10 @@ static inline void tt_free(tt_tree *tree) {
 static inline uint32_t tt_new_span(tt_tree *tree, const tt_attributes *attributes, const tt_field *fields, size_t field_count,
                                    const tt_context *context, uint64_t *id) {
   if (!tree || !attributes || !attributes->name.at || !attributes->target.at || tt_null_fields(fields, field_count) ||
-      tt_null_context(context) || !id) {
+      (context && tt_null_context(context)) || !id) {
     return tt_refuse_null(tree);
   }
-  tt_context named = tt_named(context);
+  tt_context named = context ? tt_named(context) : tt_here(tree);
   return tt_raw_new_span(tree, attributes, fields ? fields : TT_NO_FIELDS, field_count, &named, id);
 }
 
@@ -366,10 +395,10 @@ static inline uint32_t tt_record(tt_tree *tree, uint64_t id, const tt_field *fie
  *   TT_FAILED     the tree has failed earlier */
 static inline uint32_t tt_event(tt_tree *tree, const tt_event_ref *event, const tt_field *fields, size_t field_count,
                                 const tt_context *context) {
-  if (!tree || !event || !event->target.at || tt_null_fields(fields, field_count) || tt_null_context(context)) {
+  if (!tree || !event || !event->target.at || tt_null_fields(fields, field_count) || (context && tt_null_context(context))) {
     return tt_refuse_null(tree);
   }
-  tt_context named = tt_named(context);
+  tt_context named = context ? tt_named(context) : tt_here(tree);
   return tt_raw_event(tree, event, fields ? fields : TT_NO_FIELDS, field_count, &named);
 }
 
@@ -386,9 +415,31 @@ static inline uint32_t tt_event(tt_tree *tree, const tt_event_ref *event, const 
  *   TT_TOO_WIDE   a row is too wide
  *   TT_FAILED     the tree has failed earlier */
 static inline uint32_t tt_close(tt_tree *tree, uint64_t id, const tt_context *context, bool *went) {
-  if (!tree || tt_null_context(context) || !went) return tt_refuse_null(tree);
-  tt_context named = tt_named(context);
+  if (!tree || (context && tt_null_context(context)) || !went) return tt_refuse_null(tree);
+  tt_context named = context ? tt_named(context) : tt_here(tree);
   return tt_raw_close(tree, id, &named, went);
+}
+
+/* Enters a span: it is the current span of later calls whose context is NULL. Spans may be entered
+ * one in another. If a span is entered again, the current span stays, as in Rust's tracing. A span
+ * that closes stays entered, but isn't the current span. Draws nothing.
+ *   TT_OK         the span is entered
+ *   TT_MISSING    the tree is missing
+ *   TT_NOT_HELD   the span isn't live
+ *   TT_NO_MEMORY  memory ran out */
+static inline uint32_t tt_enter(tt_tree *tree, uint64_t id) {
+  if (!tree) return TT_NULL;
+  return tt_raw_enter(tree, id);
+}
+
+/* Removes the last entry into a span, wherever it is among the entries. The span may have closed.
+ * Draws nothing and never allocates.
+ *   TT_OK        there is one entry less
+ *   TT_MISSING   the tree is missing
+ *   TT_NOT_HELD  the span isn't entered */
+static inline uint32_t tt_exit(tt_tree *tree, uint64_t id) {
+  if (!tree) return TT_NULL;
+  return tt_raw_exit(tree, id);
 }
 
 /* Shows these strings as the time of each event from now on. They replace the timer of the
@@ -424,9 +475,11 @@ typedef struct tt_timer {
 static inline uint32_t tt_event_timed(tt_tree *tree, const tt_timer *timer, const tt_event_ref *event, const tt_field *fields,
                                       size_t field_count, const tt_context *context) {
   uint32_t status;
-  if (!timer || !timer->moment || !timer->elapsed || !context) return tt_refuse_null(tree);
-  status = tt_set_time(tree, timer->moment(timer->data, context), timer->elapsed(timer->data, context));
-  return status == TT_OK ? tt_event(tree, event, fields, field_count, context) : status;
+  tt_context here;
+  if (!tree || !timer || !timer->moment || !timer->elapsed) return tt_refuse_null(tree);
+  here = context ? *context : tt_here(tree);
+  status = tt_set_time(tree, timer->moment(timer->data, &here), timer->elapsed(timer->data, &here));
+  return status == TT_OK ? tt_event(tree, event, fields, field_count, &here) : status;
 }
 
 /* Returns the length in bytes of the output of the last call. Copies the output to `room` if all of
@@ -457,6 +510,82 @@ static inline uint32_t tt_write(tt_tree *tree, FILE *out) {
   if (text != room) free(text);
   return status;
 }
+
+/* ---- Values of fields, as Rust's `Debug` prints them. They are written to memory of the caller:
+ *
+ *     char room[256];
+ *     tt_values values = tt_values_in(room, sizeof room);
+ *     tt_field fields[] = {{tt_str("path"), tt_string(&values, tt_str("/pay"))},
+ *                          {tt_str("size"), tt_int(&values, 3)}};
+ *
+ * are the fields path="/pay" and size=3. The values stay until the memory is used otherwise. If a
+ * value doesn't fit, its address is NULL, and the call that it is passed to returns TT_NULL. */
+
+/* Memory of the caller, and how much of it values use. */
+typedef struct tt_values {
+  uint8_t *at;
+  size_t size;
+  size_t used;
+} tt_values;
+
+/* Returns `size` bytes of memory without values. If `at` is NULL, no value fits. */
+static inline tt_values tt_values_in(void *at, size_t size) {
+  tt_values values;
+  values.at = (uint8_t *)at;
+  values.size = at ? size : 0;
+  values.used = 0;
+  return values;
+}
+
+/* Returns the free memory of `values`, which isn't NULL. */
+static inline uint8_t *tt_values_room(const tt_values *values, size_t *size) {
+  static uint8_t none[1];
+  *size = values && values->at ? values->size - values->used : 0;
+  return *size ? values->at + values->used : none;
+}
+
+/* Returns the value that was written to the free memory, if it fit. */
+static inline tt_text_ref tt_values_add(tt_values *values, size_t len) {
+  tt_text_ref value = {NULL, 0};
+  if (!values || !values->at || len == 0 || len > values->size - values->used) return value;
+  value.at = values->at + values->used;
+  value.len = len;
+  values->used += len;
+  return value;
+}
+
+/* Returns a string in quotes. Quotes, backslashes and ASCII's control characters are escaped, as in
+ * Rust. Other characters stay. (Rust escapes a few that aren't ASCII too.) The value also doesn't
+ * fit if memory runs out. */
+static inline tt_text_ref tt_string(tt_values *values, tt_text_ref text) {
+  size_t size;
+  uint8_t *room = tt_values_room(values, &size);
+  return tt_values_add(values, text.at ? tt_raw_string(text.at, text.len, room, size) : 0);
+}
+
+/* Returns a whole number in decimal digits. The value also doesn't fit if memory runs out. */
+static inline tt_text_ref tt_int(tt_values *values, int64_t value) {
+  size_t size;
+  uint8_t *room = tt_values_room(values, &size);
+  return tt_values_add(values, tt_raw_int(value, room, size));
+}
+
+static inline tt_text_ref tt_uint(tt_values *values, uint64_t value) {
+  size_t size;
+  uint8_t *room = tt_values_room(values, &size);
+  return tt_values_add(values, tt_raw_uint(value, room, size));
+}
+
+/* Returns `true` or `false`. */
+static inline tt_text_ref tt_bool(tt_values *values, bool value) {
+  size_t size;
+  uint8_t *room = tt_values_room(values, &size);
+  return tt_values_add(values, tt_raw_bool(value, room, size));
+}
+
+/* Returns a value whose debug form the caller has made, a NUL-terminated string. It isn't copied,
+ * and is drawn unchanged. */
+static inline tt_text_ref tt_debug(const char *value) { return tt_str(value); }
 
 #ifdef __cplusplus
 }

@@ -23,10 +23,9 @@ fn numbered(number: usize) -> HierarchicalLayer {
         .with_close_retrace(switch(8))
         .with_span_modes(switch(9))
         .with_bracketed_fields(switch(10));
-    if number % 3 == 0 {
-        layer.with_wraparound(1 + number % 4)
-    } else {
-        layer
+    match number % 3 {
+        0 => layer.with_wraparound(1 + number % 4),
+        _ => layer,
     }
 }
 

@@ -203,6 +203,13 @@ where
             let time = if self.own_timer { Some(self.time(here)) } else { None };
             fields.take(|visit| event.record(visit));
             let mut context = self.context(here);
+            let level = level(event.metadata().level());
+            let is_contextual = event.is_contextual();
+            #[cfg(feature = "log")]
+            let log_target = crate::log::target_of(event);
+            #[cfg(not(feature = "log"))]
+            let log_target = None::<String>;
+            let target = log_target.as_deref().unwrap_or_else(|| event.metadata().target());
             self.draw(here, None, |tree, spans| {
                 if let Some((moment, elapsed)) = &time {
                     tree.set_time(&sys::Time { moment: moment.as_str().into(), elapsed: elapsed.as_str().into() }).ok()?;
@@ -210,17 +217,17 @@ where
                 let current = here.entered.current(self.number).and_then(|id| spans.get(id));
                 context.current = current.map_or(0, |kept| kept.id);
                 let named = event.parent().and_then(|id| spans.get(id.into_u64()));
-                let told = sys::Event {
-                    target: event.metadata().target().into(),
+                let event = sys::Event {
+                    target: target.into(),
                     parent: named.map_or(0, |kept| kept.id),
                     parent_kind: match named {
                         Some(_) => sys::OF,
-                        None if event.is_contextual() => sys::CURRENT,
+                        None if is_contextual => sys::CURRENT,
                         None => sys::ROOT,
                     },
-                    level: level(event.metadata().level()),
+                    level,
                 };
-                tree.event(&told, fields.as_slice(), &context).ok()
+                tree.event(&event, fields.as_slice(), &context).ok()
             });
         });
     }

@@ -23,11 +23,14 @@ mod entered;
 mod fields;
 mod here;
 mod layer;
+#[cfg(feature = "log")]
+mod log;
 mod spans;
 #[allow(unsafe_code)]
 mod sys;
 pub mod time;
 
+use std::fmt;
 use std::io::{self, IsTerminal};
 use std::sync::Mutex;
 use time::FormatTime;
@@ -52,6 +55,17 @@ where
     own_timer: bool,
     // Differs from the number of every other layer.
     number: u64,
+}
+
+impl<W, FT> fmt::Debug for HierarchicalLayer<W, FT>
+where
+    W: for<'writer> MakeWriter<'writer> + 'static,
+    FT: FormatTime,
+{
+    /// Shows the settings.
+    fn fmt(&self, f: &mut fmt::Formatter<'_>) -> fmt::Result {
+        f.debug_struct("HierarchicalLayer").field("settings", &self.settings).finish_non_exhaustive()
+    }
 }
 
 impl Default for HierarchicalLayer {

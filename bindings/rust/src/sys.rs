@@ -323,7 +323,7 @@ pub struct Tree {
     raw: RawTree,
 }
 
-// SAFETY: it is proved that a tree may move to another thread (`Handle` of crates/tracing_tree_c).
+// SAFETY: it is proved that a tree may move to another thread (`Tree` of crates/tracing_tree_c).
 // `&mut` allows only one call at a time.
 unsafe impl Send for Tree {}
 

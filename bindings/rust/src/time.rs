@@ -72,6 +72,22 @@ macro_rules! shown_by_the_library {
     };
 }
 
+/// Shows the time of the timer behind the reference.
+impl<FT: FormatTime> FormatTime for &'static FT {
+    fn format_time(&self, w: &mut impl fmt::Write) -> fmt::Result {
+        (**self).format_time(w)
+    }
+
+    fn style_timestamp(&self, ansi: bool, elapsed: Duration, w: &mut impl fmt::Write) -> fmt::Result {
+        (**self).style_timestamp(ansi, elapsed, w)
+    }
+
+    #[allow(private_interfaces)]
+    fn set(&self, settings: Settings) -> Option<Settings> {
+        (**self).set(settings)
+    }
+}
+
 /// Shows no time.
 impl FormatTime for () {
     fn format_time(&self, _: &mut impl fmt::Write) -> fmt::Result {
@@ -100,6 +116,13 @@ impl Default for Uptime {
     /// Returns a timer whose uptime starts now.
     fn default() -> Self {
         Uptime { epoch: monotonic(), higher_precision: false }
+    }
+}
+
+impl From<Instant> for Uptime {
+    /// Returns a timer whose uptime started then.
+    fn from(epoch: Instant) -> Self {
+        Uptime { epoch: monotonic_at(epoch), higher_precision: false }
     }
 }
 
@@ -154,10 +177,28 @@ impl FormatTime for LocalDateTime {
     }
 }
 
-// Returns the nanoseconds since the first call of this function.
-pub(crate) fn monotonic() -> u64 {
+// What the monotonic clock shows at its beginning. So an instant before that is a number too.
+const CLOCK_START: u64 = 1 << 62;
+
+// Returns the beginning of the monotonic clock: when it was first read.
+fn clock_begin() -> Instant {
     static BEGIN: OnceLock<Instant> = OnceLock::new();
-    BEGIN.get_or_init(Instant::now).elapsed().as_nanos() as u64
+    *BEGIN.get_or_init(Instant::now)
+}
+
+// Returns the nanoseconds of the monotonic clock.
+pub(crate) fn monotonic() -> u64 {
+    CLOCK_START + clock_begin().elapsed().as_nanos() as u64
+}
+
+// Returns the nanoseconds of the monotonic clock at an instant, limited to what fits.
+fn monotonic_at(instant: Instant) -> u64 {
+    let nanos = |time: Duration| u64::try_from(time.as_nanos()).unwrap_or(u64::MAX);
+    let begin = clock_begin();
+    match instant.checked_duration_since(begin) {
+        Some(after) => CLOCK_START.saturating_add(nanos(after)),
+        None => CLOCK_START.saturating_sub(nanos(begin.duration_since(instant))),
+    }
 }
 
 // Returns the nanoseconds since 1970, negative before it, limited to what fits.

@@ -7,7 +7,7 @@ use std::io::{self, Write};
 use std::panic::{catch_unwind, AssertUnwindSafe};
 use std::sync::{Arc, Mutex};
 use std::thread;
-use std::time::Duration;
+use std::time::{Duration, Instant};
 use tracing::{info, info_span, warn};
 use tracing_subscriber::filter::filter_fn;
 use tracing_subscriber::prelude::*;
@@ -130,6 +130,36 @@ fn a_timer_of_ones_own() {
         info_span!("a").in_scope(|| info!("y"));
     });
     assert_eq!(sink.text(), "tick INFO x\n┐a \n├─tick tock INFO y\n┘\n");
+}
+
+#[test]
+fn a_timer_by_reference() {
+    static TIMER: time::UtcDateTime = time::UtcDateTime { higher_precision: true };
+    let sink = Sink::default();
+    let writer = sink.clone();
+    let layer = plain().with_timer(&TIMER).with_writer(move || writer.clone());
+    tracing::subscriber::with_default(Registry::default().with(layer), || info!("x"));
+    assert!(sink.text().starts_with("20") && sink.text().ends_with(" INFO x\n"), "{}", sink.text());
+
+    let sink = Sink::default();
+    let writer = sink.clone();
+    let layer = plain().with_timer(&Ticks).with_writer(move || writer.clone());
+    tracing::subscriber::with_default(Registry::default().with(layer), || info!("x"));
+    assert_eq!(sink.text(), "tick INFO x\n");
+}
+
+/// An instant before the clock of the layer was first read, and one after it.
+#[test]
+fn an_uptime_since_an_instant() {
+    let shown = |epoch: Instant| {
+        let mut text = String::new();
+        time::Uptime::from(epoch).format_time(&mut text).unwrap();
+        text
+    };
+    let hour = Duration::from_secs(3600);
+    assert!(shown(Instant::now() - hour).trim_start().starts_with("3600."), "{}", shown(Instant::now() - hour));
+    assert!(shown(Instant::now()).trim_start().starts_with("0.0"), "{}", shown(Instant::now()));
+    assert!(shown(Instant::now() + hour).trim_start().starts_with("0.0"), "{}", shown(Instant::now() + hour));
 }
 
 #[test]
@@ -525,4 +555,22 @@ fn ids_that_are_given_anew() {
     });
     let rounds = (0..40_000).map(|round| format!("┐a \n├─ INFO round={round}\n┘\n"));
     assert!(text == rounds.collect::<String>());
+}
+
+/// A record of the crate `log`, as `tracing-log` passes it on, and an event that only has its
+/// target.
+#[test]
+fn records_of_log() {
+    let text = drawn(plain().with_targets(true), || {
+        tracing::event!(target: "log", tracing::Level::INFO, { log.target = "shop::orders", log.line = 7 }, "stored");
+        info!(target: "log", "no record");
+    });
+    let target = if cfg!(feature = "log") { "shop::orders" } else { "log" };
+    assert_eq!(text, format!("├─ INFO {target} stored\n├─ INFO log no record\n").replace("├─ ", ""));
+}
+
+#[test]
+fn a_layer_is_debug() {
+    let text = format!("{:?}", plain().with_targets(true));
+    assert!(text.starts_with("HierarchicalLayer {") && text.contains("targets: true"), "{text}");
 }

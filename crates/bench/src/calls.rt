@@ -61,7 +61,7 @@ impl Calls {
     }
 
     // An event with a message and a field.
-    pub fn tell(&mut self, message: &str, current: Option<u64>) -> Result<(), AllocError> {
+    pub fn emit(&mut self, message: &str, current: Option<u64>) -> Result<(), AllocError> {
         let event = Event {
             level: Level::Info,
             target: Text::from_str(self.alloc, "bench")?,

@@ -34,24 +34,24 @@ use works::{Batch, Work};
 const BATCH: u32 = 64;
 
 fn main(rt: HostRuntime) -> anyhow::Result<()> {
-    let words = words(&rt)?;
-    let Some((name, words)) = words.as_slice().split_first() else {
+    let args = args(&rt)?;
+    let Some((name, args)) = args.as_slice().split_first() else {
         return list(&rt);
     };
     match name.as_str() {
         "reading" => reading::run(&rt),
-        "threads" => time_threads(&rt, words),
-        name => time_calls(&rt, name, words),
+        "threads" => time_threads(&rt, args),
+        name => time_calls(&rt, name, args),
     }
 }
 
 // Returns the words after the program's name.
-fn words<R: AllocGlobal + Env>(rt: &R) -> anyhow::Result<Vec<String>> {
-    let mut words = Vec::new(rt.alloc());
+fn args<R: AllocGlobal + Env>(rt: &R) -> anyhow::Result<Vec<String>> {
+    let mut args = Vec::new(rt.alloc());
     for word in std::env::args(rt)?.skip(1) {
-        words.push(word)?;
+        args.push(word)?;
     }
-    Ok(words)
+    Ok(args)
 }
 
 fn list(rt: &impl Print) -> anyhow::Result<()> {
@@ -67,9 +67,9 @@ fn list(rt: &impl Print) -> anyhow::Result<()> {
 
 fn time_threads<R: AllocGlobal + Threads + Wait + MachineClock + Print + Sync>(
     rt: &R,
-    words: &[String],
+    args: &[String],
 ) -> anyhow::Result<()> {
-    let Some((name, numbers)) = words.split_first() else {
+    let Some((name, numbers)) = args.split_first() else {
         anyhow::bail!("no work of threads is named");
     };
     let Some(work) = threads::Work::named(name.as_str()) else {
@@ -81,9 +81,9 @@ fn time_threads<R: AllocGlobal + Threads + Wait + MachineClock + Print + Sync>(
 fn time_calls<R: AllocGlobal + MachineClock + Print>(
     rt: &R,
     name: &str,
-    words: &[String],
+    args: &[String],
 ) -> anyhow::Result<()> {
-    let rounds = match words.first() {
+    let rounds = match args.first() {
         Some(word) => word.as_str().parse::<u32>()?,
         None => BATCH,
     };
@@ -93,16 +93,16 @@ fn time_calls<R: AllocGlobal + MachineClock + Print>(
     let Some(work) = Work::named(name) else {
         anyhow::bail!("no such work");
     };
-    let way = match words.get(1) {
-        Some(word) => Way::named(word.as_str())?,
-        None => Way::Timed,
+    let mode = match args.get(1) {
+        Some(word) => Mode::named(word.as_str())?,
+        None => Mode::Timed,
     };
-    measure(rt, work, rounds, way)
+    measure(rt, work, rounds, mode)
 }
 
 // What is done with the calls of a batch.
 #[derive(Clone, Copy, PartialEq, Eq)]
-enum Way {
+enum Mode {
     // They are made and timed.
     Timed,
     // They are dropped.
@@ -111,11 +111,11 @@ enum Way {
     Marked,
 }
 
-impl Way {
-    fn named(name: &str) -> anyhow::Result<Way> {
+impl Mode {
+    fn named(name: &str) -> anyhow::Result<Mode> {
         match name {
-            "idle" => Ok(Way::Idle),
-            "marked" => Ok(Way::Marked),
+            "idle" => Ok(Mode::Idle),
+            "marked" => Ok(Mode::Marked),
             _ => anyhow::bail!("no such way"),
         }
     }
@@ -134,7 +134,7 @@ fn measure<R: AllocGlobal + MachineClock + Print>(
     rt: &R,
     work: Work,
     rounds: u32,
-    way: Way,
+    mode: Mode,
 ) -> anyhow::Result<()> {
     let mut layered = Layered::new(rt.alloc(), work.layer(rt.alloc()));
     let mut calls = Calls::new(rt.alloc());
@@ -148,7 +148,7 @@ fn measure<R: AllocGlobal + MachineClock + Print>(
     };
     for from in (0..rounds).step_by(BATCH as usize) {
         work.fill(&mut calls, batch_at(from, rounds))?;
-        time(rt, &mut layered, &mut calls, way, &mut measured)?;
+        time(rt, &mut layered, &mut calls, mode, &mut measured)?;
     }
     report(
         rt,
@@ -172,18 +172,18 @@ fn time<R: AllocGlobal + MachineClock + Print>(
     rt: &R,
     layered: &mut Layered<Sink, Clock<'static>>,
     calls: &mut Calls,
-    way: Way,
+    mode: Mode,
     measured: &mut Measured,
 ) -> anyhow::Result<()> {
     let batch = calls.take();
-    if way == Way::Idle {
+    if mode == Mode::Idle {
         return Ok(());
     }
     measured.calls = measured.calls.wrapping_add(batch.len() as u64);
     let start = Instant::now(rt)?;
-    mark(rt, way, "begin")?;
+    mark(rt, mode, "begin")?;
     let answers = layered.run(rt.alloc(), batch)?;
-    mark(rt, way, "end")?;
+    mark(rt, mode, "end")?;
     let took = start.elapsed(rt)?;
     let nanos = u64::try_from(took.as_nanos()).unwrap_or(u64::MAX);
     measured.nanos = measured.nanos.saturating_add(nanos);
@@ -193,8 +193,8 @@ fn time<R: AllocGlobal + MachineClock + Print>(
 }
 
 // Prints this line, if the calls are marked.
-fn mark(rt: &impl Print, way: Way, line: &str) -> anyhow::Result<()> {
-    if way == Way::Marked {
+fn mark(rt: &impl Print, mode: Mode, line: &str) -> anyhow::Result<()> {
+    if mode == Mode::Marked {
         println!(rt; "{line}")?;
     }
     Ok(())

@@ -104,7 +104,7 @@ fn make_wave<R: AllocGlobal + MachineClock>(rt: &R, soak: &mut Soak) -> anyhow::
 fn make<R: AllocGlobal + MachineClock>(rt: &R, soak: &mut Soak) -> anyhow::Result<()> {
     for call in soak.calls.take() {
         let start = Instant::now(rt)?;
-        let answer = told(&mut soak.layered, call);
+        let answer = emitted(&mut soak.layered, call);
         let took = start.elapsed(rt)?;
         let nanos = u64::try_from(took.as_nanos()).unwrap_or(u64::MAX);
         soak.wave = soak.wave.with(nanos, answer.is_ok());
@@ -113,7 +113,7 @@ fn make<R: AllocGlobal + MachineClock>(rt: &R, soak: &mut Soak) -> anyhow::Resul
 }
 
 // What a call is answered. The contract says nothing, since only the answer is looked at here.
-fn told(layered: &mut Layered<Sink, ()>, call: Call) -> Result<Reply, Refusal> {
+fn emitted(layered: &mut Layered<Sink, ()>, call: Call) -> Result<Reply, Refusal> {
     layered.call(call)
 }
 
@@ -139,7 +139,7 @@ fn open_row(soak: &mut Soak) -> anyhow::Result<()> {
     for place in 0..ROW {
         let id = soak.calls.open(None)?;
         if place % 10 == 0 {
-            soak.calls.tell("begun", Some(id))?;
+            soak.calls.emit("begun", Some(id))?;
         }
     }
     Ok(())
@@ -165,8 +165,8 @@ fn branches<R: AllocGlobal + MachineClock>(
     let left = chain(soak, root, depth)?;
     let right = chain(soak, root, depth)?;
     for _turn in 0..3 {
-        soak.calls.tell("in turn", Some(left))?;
-        soak.calls.tell("in turn", Some(right))?;
+        soak.calls.emit("in turn", Some(left))?;
+        soak.calls.emit("in turn", Some(right))?;
     }
     for id in root..=right {
         soak.calls.close(id)?;
@@ -182,7 +182,7 @@ fn grown<R: AllocGlobal + MachineClock>(rt: &R, soak: &mut Soak) -> anyhow::Resu
         soak.calls.clone_span(id)?;
     }
     let message = "x".repeat(rt.alloc(), 1 << 16)?;
-    soak.calls.tell(message.as_str(), Some(id))?;
+    soak.calls.emit(message.as_str(), Some(id))?;
     for _time in 0..=ROW {
         soak.calls.close(id)?;
     }

@@ -7,8 +7,8 @@
 
 ghost use Rattle.std.specs.Prelude.{◌≡◌, ◌<◌, ◌≤◌};
 
-mod desk;
 mod hand;
+mod receiver;
 mod works;
 
 pub use hand::Work;
@@ -65,8 +65,8 @@ fn timed<R: AllocGlobal + Threads + Wait + Clock + Sync>(
 fn report(rt: &impl Print, work: Work, size: Size, timed: Timed) -> anyhow::Result<()> {
     let name = work.name();
     let threads = size.threads;
-    let Timed { told, nanos } = timed;
-    let each = nanos / told.max(1);
-    println!(rt; "{name}: {threads} threads, {told} events, {each} ns an event")?;
+    let Timed { emitted, nanos } = timed;
+    let each = nanos / emitted.max(1);
+    println!(rt; "{name}: {threads} threads, {emitted} events, {each} ns an event")?;
     Ok(())
 }

@@ -233,7 +233,7 @@ impl Work {
             Work::Spread1000 => spread(calls, shuffled(round, 1_000)),
             Work::Spread1000000 => spread(calls, shuffled(round, 1_000_000)),
             Work::Event | Work::EventUtc | Work::EventLocal | Work::EventUptime => {
-                calls.tell("something happened", Some(1))
+                calls.emit("something happened", Some(1))
             }
             Work::CloseLeaf => calls.close(round.wrapping_add(2)),
             Work::LongText => long_event(calls),
@@ -270,7 +270,7 @@ fn nested(calls: &mut Calls) -> Result<(), AllocError> {
     let third = calls.open(Some(second))?;
     let fourth = calls.open(Some(third))?;
     let leaf = calls.open(Some(fourth))?;
-    calls.tell("something happened", Some(leaf))?;
+    calls.emit("something happened", Some(leaf))?;
     for id in [leaf, fourth, third, second, root] {
         calls.close(id)?;
     }
@@ -331,8 +331,8 @@ fn leaves(calls: &mut Calls, depth: u32) -> Result<(), AllocError> {
 }
 
 fn alternating(calls: &mut Calls, depth: u64) -> Result<(), AllocError> {
-    calls.tell("something happened", Some(depth))?;
-    calls.tell("something happened", Some(depth.wrapping_add(1)))
+    calls.emit("something happened", Some(depth))?;
+    calls.emit("something happened", Some(depth.wrapping_add(1)))
 }
 
 // Each id up to this number once, by steps of a prime.
@@ -362,5 +362,5 @@ fn spread(calls: &mut Calls, id: u64) -> Result<(), AllocError> {
 
 fn long_event(calls: &mut Calls) -> Result<(), AllocError> {
     let message = "x".repeat(calls.allocator(), 1 << 20)?;
-    calls.tell(message.as_str(), Some(1))
+    calls.emit(message.as_str(), Some(1))
 }

@@ -70,7 +70,7 @@ impl Prepared {
         } = self;
         let mut refused = 0u32;
         for trial in trials {
-            if told_twice(&mut layered, trial)? {
+            if emitted_twice(&mut layered, trial)? {
                 refused = refused.saturating_add(1);
             }
         }
@@ -125,7 +125,7 @@ fn refused_in(answers: &[Answer], trials: &[Trial]) -> anyhow::Result<u32> {
 }
 
 // Makes a call, and again if an allocation failed. Returns whether one did.
-fn told_twice(layered: &mut Layered<Board, ()>, trial: Trial) -> anyhow::Result<bool> {
+fn emitted_twice(layered: &mut Layered<Board, ()>, trial: Trial) -> anyhow::Result<bool> {
     let Trial {
         call,
         again,
@@ -133,25 +133,25 @@ fn told_twice(layered: &mut Layered<Board, ()>, trial: Trial) -> anyhow::Result<
     } = trial;
     let before = Seen::of(layered);
     let length = layered.writer().bytes().len();
-    let mut given = told(layered, call);
+    let mut given = emitted(layered, call);
     let refused = given == Err(Refusal::Memory);
     if refused {
         anyhow::ensure!(
             Seen::of(layered) == before && layered.writer().bytes().len() == length,
             "a call to which memory was refused has changed something"
         );
-        given = told(layered, again);
+        given = emitted(layered, again);
     }
     anyhow::ensure!(given == answer, "a call is answered otherwise");
     Ok(refused)
 }
 
 // What a call is answered. The contract says nothing, since only the answer is looked at here.
-fn told<W: Output>(layered: &mut Layered<W, ()>, call: Box<Call>) -> Answer {
+fn emitted<W: Output>(layered: &mut Layered<W, ()>, call: Box<Call>) -> Answer {
     layered.call(Box::into_inner(call))
 }
 
-// Makes a run, like `told_twice`.
+// Makes a run, like `emitted_twice`.
 fn run(
     layered: &mut Layered<Board, ()>,
     alloc: Global,
@@ -188,7 +188,7 @@ impl OnTape {
         } = self;
         let mut refused = 0u32;
         for trial in trials {
-            if told_on_tape(&mut layered, trial)? {
+            if emitted_on_tape(&mut layered, trial)? {
                 refused = refused.saturating_add(1);
             }
         }
@@ -205,7 +205,7 @@ impl OnTape {
 
 // Makes a call, and again if an allocation failed. Returns whether one did, of the call or of the
 // output.
-fn told_on_tape(layered: &mut Layered<Tape, ()>, trial: Trial) -> anyhow::Result<bool> {
+fn emitted_on_tape(layered: &mut Layered<Tape, ()>, trial: Trial) -> anyhow::Result<bool> {
     let Trial {
         call,
         again,
@@ -213,11 +213,11 @@ fn told_on_tape(layered: &mut Layered<Tape, ()>, trial: Trial) -> anyhow::Result
     } = trial;
     let had_failed = layered.layer().failed();
     let length = layered.writer().bytes().len();
-    let given = told(layered, call);
+    let given = emitted(layered, call);
     let stays = layered.writer().bytes().len() == length;
     if given == Err(Refusal::Memory) && stays {
         anyhow::ensure!(
-            told(layered, again) == answer,
+            emitted(layered, again) == answer,
             "a call is answered otherwise after a refusal"
         );
         return Ok(true);

@@ -22,8 +22,8 @@ use std::sync::Wait;
 use std::sync::ledger::Blank;
 
 fn main(rt: HostRuntime) -> anyhow::Result<()> {
-    let mut words = std::env::args(&rt)?.skip(1);
-    let asked = words.next();
+    let mut args = std::env::args(&rt)?.skip(1);
+    let asked = args.next();
     for work in Work::ALL {
         if asked
             .as_ref()
@@ -98,7 +98,7 @@ fn done<R: AllocGlobal + Print + Wait>(rt: &R, work: Work) -> anyhow::Result<u32
         Work::Calls(script) => make_calls(rt, work, script),
         Work::Run => make_run(rt, work),
         Work::Tape => make_on_tape(rt, work),
-        Work::Json => tell_rows(rt, work),
+        Work::Json => emit_rows(rt, work),
         Work::Lines => run_by_lines(rt, work),
         Work::Shared => share(rt, work),
         Work::Rows => {
@@ -146,11 +146,11 @@ fn read_by_lines<R: AllocGlobal + Print>(rt: &R, work: Work) -> anyhow::Result<u
     texts::read_by_lines(alloc, rows)
 }
 
-fn tell_rows<R: AllocGlobal + Print>(rt: &R, work: Work) -> anyhow::Result<u32> {
+fn emit_rows<R: AllocGlobal + Print>(rt: &R, work: Work) -> anyhow::Result<u32> {
     let alloc = rt.alloc();
     let (board, again) = (Board::new(alloc)?, Board::new(alloc)?);
     begin(rt, work)?;
-    texts::tell_rows(alloc, board, again)
+    texts::emit_rows(alloc, board, again)
 }
 
 fn run_by_lines<R: AllocGlobal + Print>(rt: &R, work: Work) -> anyhow::Result<u32> {

@@ -42,7 +42,7 @@ pub enum Script {
 pub enum Step {
     New(&'static str, &'static str, Option<u64>),
     Record(u64, &'static str),
-    Told(&'static str, Option<u64>),
+    Event(&'static str, Option<u64>),
     Close(u64),
 }
 
@@ -147,7 +147,7 @@ const DEFERRED: &[(Step, Answer)] = &[
     (Step::New("a", "", None), Ok(Reply::Span(Id(1)))),
     (Step::New("b", "", Some(1)), Ok(Reply::Span(Id(2)))),
     (Step::New("c", "", Some(2)), Ok(Reply::Span(Id(3)))),
-    (Step::Told("x", Some(2)), Ok(Reply::Done)),
+    (Step::Event("x", Some(2)), Ok(Reply::Done)),
     (Step::Close(3), Ok(Reply::Closed(true))),
 ];
 
@@ -162,8 +162,8 @@ const CLOSES: &[(Step, Answer)] = &[
 const INTERLEAVED: &[(Step, Answer)] = &[
     (Step::New("a", "", None), Ok(Reply::Span(Id(1)))),
     (Step::New("b", "", Some(1)), Ok(Reply::Span(Id(2)))),
-    (Step::Told("x", Some(1)), Ok(Reply::Done)),
-    (Step::Told("y", Some(2)), Ok(Reply::Done)),
+    (Step::Event("x", Some(1)), Ok(Reply::Done)),
+    (Step::Event("y", Some(2)), Ok(Reply::Done)),
 ];
 
 const RECORDED: &[(Step, Answer)] = &[
@@ -173,7 +173,7 @@ const RECORDED: &[(Step, Answer)] = &[
     (Step::Record(1, "2"), Ok(Reply::Done)),
     (Step::Record(1, "3"), Ok(Reply::Done)),
     (Step::Record(1, "4"), Ok(Reply::Done)),
-    (Step::Told("x", Some(1)), Ok(Reply::Done)),
+    (Step::Event("x", Some(1)), Ok(Reply::Done)),
 ];
 
 const ALTERNATING: &[(Step, Answer)] = &[
@@ -187,9 +187,9 @@ const ALTERNATING: &[(Step, Answer)] = &[
     ),
     (Step::New("a", "", Some(1)), Ok(Reply::Span(Id(3)))),
     (Step::New("b", "", Some(2)), Ok(Reply::Span(Id(4)))),
-    (Step::Told("a", Some(3)), Ok(Reply::Done)),
+    (Step::Event("a", Some(3)), Ok(Reply::Done)),
     (Step::Close(3), Ok(Reply::Closed(true))),
-    (Step::Told("b", Some(4)), Ok(Reply::Done)),
+    (Step::Event("b", Some(4)), Ok(Reply::Done)),
     (Step::Close(4), Ok(Reply::Closed(true))),
     (Step::Close(2), Ok(Reply::Closed(true))),
     (Step::Close(1), Ok(Reply::Closed(true))),
@@ -233,7 +233,7 @@ const NESTED: &[(Step, Answer)] = &[
         Ok(Reply::Done),
     ),
     (
-        Step::Told("a message that is longer than a short text", Some(8)),
+        Step::Event("a message that is longer than a short text", Some(8)),
         Ok(Reply::Done),
     ),
     (Step::Close(1), Ok(Reply::Closed(false))),
@@ -263,7 +263,7 @@ impl Step {
                 let fields = field(alloc, "k", value)?;
                 Call::Record(Id(id), Record { fields })
             }
-            Step::Told(message, current) => {
+            Step::Event(message, current) => {
                 let event = Event {
                     level: Level::Info,
                     target: target(alloc)?,

@@ -53,7 +53,7 @@ fn found(alloc: Global, text: &str) -> Result<Vec<EventPath>, ReadFault> {
     read_paths(alloc, text, 2)
 }
 
-fn told(alloc: Global, text: &[u8], board: &mut Board) -> Result<(), RowCause> {
+fn emitted(alloc: Global, text: &[u8], board: &mut Board) -> Result<(), RowCause> {
     rows_to_json(alloc, text, board, 2).map_err(|fault| fault.cause)
 }
 
@@ -134,19 +134,19 @@ pub fn find_paths(alloc: Global) -> anyhow::Result<u32> {
 }
 
 /// Writes the rows of a tree as lines of JSON. Returns how many allocations failed.
-pub fn tell_rows(alloc: Global, mut board: Board, mut again: Board) -> anyhow::Result<u32> {
-    let Err(cause) = told(alloc, TREE.as_bytes(), &mut board) else {
-        anyhow::ensure!(board.bytes() == JSON.as_bytes(), "other rows are told");
+pub fn emit_rows(alloc: Global, mut board: Board, mut again: Board) -> anyhow::Result<u32> {
+    let Err(cause) = emitted(alloc, TREE.as_bytes(), &mut board) else {
+        anyhow::ensure!(board.bytes() == JSON.as_bytes(), "other rows are reported");
         return Ok(0);
     };
     anyhow::ensure!(
         cause == RowCause::Memory && is_beginning(board.bytes(), JSON.as_bytes()),
-        "another beginning is told"
+        "another prefix is reported"
     );
-    let second = told(alloc, TREE.as_bytes(), &mut again);
+    let second = emitted(alloc, TREE.as_bytes(), &mut again);
     anyhow::ensure!(
         second.is_ok() && again.bytes() == JSON.as_bytes(),
-        "other rows are told the second time"
+        "other rows are reported the second time"
     );
     Ok(1)
 }

@@ -1,6 +1,6 @@
 //! A thread that makes random calls.
 
-use crate::desk::Desk;
+use crate::receiver::Receiver;
 use rand_core::utils::NextWord;
 use rand_pcg::Pcg32;
 use std::alloc::{AllocError, Global};
@@ -19,7 +19,7 @@ const TRIES: u64 = 8;
 /// An accepted call, with its place among all accepted calls, and its reply. A call is boxed, since
 /// each step of what moves it is proved over all that it holds.
 #[derive(Drop)]
-pub struct Told {
+pub struct Emitted {
     pub place: usize,
     pub call: Box<Call>,
     pub reply: Reply,
@@ -31,7 +31,7 @@ pub struct Caller {
     alloc: Global,
     random: Pcg32,
     thread: u64,
-    pub told: Vec<Told>,
+    pub emitted: Vec<Emitted>,
     pub calls: u64,
     pub refused: u64,
     pub unmade: u64,
@@ -44,7 +44,7 @@ impl Caller {
             alloc,
             random,
             thread,
-            told: Vec::new(alloc),
+            emitted: Vec::new(alloc),
             calls: 0,
             refused: 0,
             unmade: 0,
@@ -52,26 +52,26 @@ impl Caller {
     }
 
     /// Makes up to forty calls.
-    pub fn run<R: Wait, D: Desk>(&mut self, rt: &R, desk: &mut D) {
+    pub fn run<R: Wait, D: Receiver>(&mut self, rt: &R, receiver: &mut D) {
         for _ in 0..self.random.next_word() % 40 {
-            if self.turn(rt, desk).is_err() {
+            if self.turn(rt, receiver).is_err() {
                 self.unmade = self.unmade.saturating_add(1);
             }
         }
     }
 
     // Makes a call, and stores it if it is accepted. On an `Err` it was not submitted.
-    fn turn<R: Wait, D: Desk>(&mut self, rt: &R, desk: &mut D) -> Result<(), Refusal> {
+    fn turn<R: Wait, D: Receiver>(&mut self, rt: &R, receiver: &mut D) -> Result<(), Refusal> {
         let call = Box::new(self.alloc, self.call()?)?;
         let kept = copied(self.alloc, &call)?;
-        self.told.reserve(1)?;
-        let draft = drafted(self.alloc, desk, call)?;
+        self.emitted.reserve(1)?;
+        let draft = drafted(self.alloc, receiver, call)?;
         if self.random.next_word() % 4 == 0 {
             thread::yield_now();
         }
         self.calls = self.calls.saturating_add(1);
-        match handed_in(rt, desk, draft) {
-            Ok((place, reply)) => self.told.push(Told {
+        match handed_in(rt, receiver, draft) {
+            Ok((place, reply)) => self.emitted.push(Emitted {
                 place,
                 call: kept,
                 reply,
@@ -100,10 +100,10 @@ impl Caller {
             0 => Step::New("root", None),
             1..=3 => Step::New("span", Some(id)),
             4 => Step::NewIn("root", Parent::Root, Some(id)),
-            5..=6 => Step::Told(Level::Debug, "two\nlines", Some(id)),
-            7..=8 => Step::Told(Level::Warn, "something happened", Some(id)),
-            9 => Step::Told(Level::Info, "outside", None),
-            10 => Step::ToldIn("elsewhere", Parent::Root, Some(id)),
+            5..=6 => Step::Event(Level::Debug, "two\nlines", Some(id)),
+            7..=8 => Step::Event(Level::Warn, "something happened", Some(id)),
+            9 => Step::Event(Level::Info, "outside", None),
+            10 => Step::EventIn("elsewhere", Parent::Root, Some(id)),
             11 => Step::Record(id, "1"),
             12 => Step::Clone(id),
             _ => Step::Close(id),
@@ -117,10 +117,10 @@ impl Caller {
             return u64::MAX;
         }
         let place = self.random.next_word() as usize;
-        let at = place.checked_rem(self.told.len()).unwrap_or(0);
-        match self.told.get(at) {
+        let at = place.checked_rem(self.emitted.len()).unwrap_or(0);
+        match self.emitted.get(at) {
             Some(
-                Told {
+                Emitted {
                     reply: Reply::Span(id),
                     ..
                 },
@@ -132,22 +132,22 @@ impl Caller {
     /// Returns whether the places of the calls rise.
     pub fn is_in_order(&self) -> bool {
         let mut least = 0;
-        for told in &self.told {
-            if told.place < least {
+        for emitted in &self.emitted {
+            if emitted.place < least {
                 return false;
             }
-            least = told.place.saturating_add(1);
+            least = emitted.place.saturating_add(1);
         }
         true
     }
 
     /// Returns whether these are the receipts of the accepted calls, each in its turn.
     pub fn has(&self, receipts: &[Receipt]) -> bool {
-        receipts.len() == self.told.len()
-            && receipts.iter().zip(&self.told).all(|(receipt, told)| {
-                receipt.place() == told.place
-                    && *receipt.call() == *told.call
-                    && receipt.reply() == told.reply
+        receipts.len() == self.emitted.len()
+            && receipts.iter().zip(&self.emitted).all(|(receipt, emitted)| {
+                receipt.place() == emitted.place
+                    && *receipt.call() == *emitted.call
+                    && receipt.reply() == emitted.reply
             })
     }
 }
@@ -156,18 +156,22 @@ fn copied(alloc: Global, call: &Call) -> Result<Box<Call>, AllocError> {
     Ok(Box::new(alloc, call.copied()?)?)
 }
 
-fn drafted<D: Desk>(alloc: Global, desk: &D, call: Box<Call>) -> Result<Box<Draft>, Refusal> {
-    let draft = desk.draft(alloc, Box::into_inner(call))?;
+fn drafted<D: Receiver>(
+    alloc: Global,
+    receiver: &D,
+    call: Box<Call>,
+) -> Result<Box<Draft>, Refusal> {
+    let draft = receiver.draft(alloc, Box::into_inner(call))?;
     Ok(Box::new(alloc, draft)?)
 }
 
 // Submits a draft. If it is refused because memory ran out, it is submitted again.
-fn handed_in<R: Wait, D: Desk>(
+fn handed_in<R: Wait, D: Receiver>(
     rt: &R,
-    desk: &mut D,
+    receiver: &mut D,
     draft: Box<Draft>,
 ) -> Result<(usize, Reply), Refused> {
-    let mut answer = desk.submit(rt, Box::into_inner(draft));
+    let mut answer = receiver.submit(rt, Box::into_inner(draft));
     for _ in 1..TRIES {
         match answer {
             Err(
@@ -175,7 +179,7 @@ fn handed_in<R: Wait, D: Desk>(
                     draft,
                     cause: Refusal::Memory,
                 },
-            ) => answer = desk.submit(rt, draft),
+            ) => answer = receiver.submit(rt, draft),
             answered => return answered,
         }
     }

@@ -9,7 +9,7 @@
 ghost use Rattle.std.specs.Prelude.{◌≡◌, ◌<◌, ◌≤◌};
 
 mod caller;
-mod desk;
+mod receiver;
 mod round;
 
 use round::{Plan, Tally, shared_round, streaming_round};

@@ -2,8 +2,8 @@
 
 ghost use Rattle.std.specs.Prelude.{◌≡◌, ◌+◌, ◌≤◌, [], None, false};
 
-use crate::caller::{Caller, Told};
-use crate::desk::{Streamed, WithPass};
+use crate::caller::{Caller, Emitted};
+use crate::receiver::{Streamed, WithPass};
 use rand_core::utils::NextWord;
 use rand_pcg::Pcg32;
 use std::alloc::{AllocError, Global};
@@ -100,38 +100,38 @@ impl Plan {
 
 // A thread with its pass.
 #[derive(Drop)]
-struct Seat<L: Ledger> {
+struct Worker<L: Ledger> {
     pass: Pass<L>,
     caller: Caller,
 }
 
-impl<L: Ledger> Seat<L> {
+impl<L: Ledger> Worker<L> {
     fn run<R: Wait>(&mut self, rt: &R, layer: &SharedLayer<(), L>) {
-        let mut desk = WithPass {
+        let mut receiver = WithPass {
             layer,
             pass: &mut self.pass,
         };
-        self.caller.run(rt, &mut desk);
+        self.caller.run(rt, &mut receiver);
     }
 }
 
-fn seats<L: Ledger>(plan: &mut Plan, passes: Vec<Pass<L>>) -> Result<Vec<Seat<L>>, AllocError> {
-    let mut seats = Vec::new(plan.alloc);
+fn workers<L: Ledger>(plan: &mut Plan, passes: Vec<Pass<L>>) -> Result<Vec<Worker<L>>, AllocError> {
+    let mut workers = Vec::new(plan.alloc);
     for pass in passes {
-        let caller = plan.caller(seats.len() as u64);
-        seats.push(Seat { pass, caller })?;
+        let caller = plan.caller(workers.len() as u64);
+        workers.push(Worker { pass, caller })?;
     }
-    Ok(seats)
+    Ok(workers)
 }
 
 // Returns the passes and the threads' accounts, if each pass has the calls of its thread.
 fn vacated<L: Ledger>(
     alloc: Global,
-    seats: Vec<Seat<L>>,
+    workers: Vec<Worker<L>>,
 ) -> anyhow::Result<(Vec<Pass<L>>, Vec<Caller>)> {
     let mut passes = Vec::new(alloc);
     let mut callers = Vec::new(alloc);
-    for Seat { pass, caller } in seats {
+    for Worker { pass, caller } in workers {
         anyhow::ensure!(
             caller.has(pass.receipts()),
             "the receipts are not the thread's calls"
@@ -155,24 +155,25 @@ pub fn shared_round<L: Ledger + Send + Sync, R: Threads + Wait + Sync>(
 {
     let alloc = plan.alloc;
     let (layer, passes) = SharedLayer::<(), L>::open(alloc, blank, plan.layered(), threads)?;
-    let mut seats = seats(plan, passes)?;
+    let mut workers = workers(plan, passes)?;
     thread::for_each_mut(
         rt,
-        seats.as_mut_slice(),
+        workers.as_mut_slice(),
         MOST,
-        &|_, seat| { seat.run(rt, &layer) },
+        &|_, worker| { worker.run(rt, &layer) },
     );
-    let (passes, callers) = vacated(alloc, seats)?;
+    let (passes, callers) = vacated(alloc, workers)?;
     let Ok(finished) = layer.finish(passes) else {
         anyhow::bail!("the passes are not one history");
     };
     let tally = Tally::of(callers.as_slice());
-    let told = all_told(alloc, callers)?;
+    let emitted = all_emitted(alloc, callers)?;
     anyhow::ensure!(
-        told.len() == finished.accepted && is_history(finished.history.as_slice(), told.as_slice()),
+        emitted.len() == finished.accepted
+            && is_history(finished.history.as_slice(), emitted.as_slice()),
         "the history is not what was accepted"
     );
-    draw_again(plan.layered(), told, finished.output.bytes())?;
+    draw_again(plan.layered(), emitted, finished.output.bytes())?;
     Ok(tally)
 }
 
@@ -191,48 +192,52 @@ pub fn streaming_round<R: Threads + Wait + Sync>(rt: &R, plan: &mut Plan) -> any
         &|_, caller| { caller.run(rt, &mut Streamed { layer: &layer }) },
     );
     let tally = Tally::of(callers.as_slice());
-    let told = all_told(alloc, callers)?;
+    let emitted = all_emitted(alloc, callers)?;
     let counted = layer.into_counted();
     anyhow::ensure!(
-        counted.accepted() == told.len() as u64,
+        counted.accepted() == emitted.len() as u64,
         "the count is not that of the accepted calls"
     );
     draw_again(
         plan.layered(),
-        told,
+        emitted,
         counted.into_layered().writer().bytes(),
     )?;
     Ok(tally)
 }
 
 // Returns the accepted calls of all threads by their places. Each place must appear once.
-fn all_told(alloc: Global, callers: Vec<Caller>) -> anyhow::Result<Vec<Told>> {
-    let mut all: Vec<Told> = Vec::new(alloc);
+fn all_emitted(alloc: Global, callers: Vec<Caller>) -> anyhow::Result<Vec<Emitted>> {
+    let mut all: Vec<Emitted> = Vec::new(alloc);
     for mut caller in callers {
         anyhow::ensure!(
             caller.is_in_order(),
             "the calls of a thread are out of order"
         );
-        all.append(&mut caller.told)?;
+        all.append(&mut caller.emitted)?;
     }
-    all.sort_by_key(|told| told.place)?;
+    all.sort_by_key(|emitted| emitted.place)?;
     anyhow::ensure!(
         all.iter()
             .enumerate()
-            .all(|(place, told)| told.place == place),
+            .all(|(place, emitted)| emitted.place == place),
         "a place is missing, or there twice"
     );
     Ok(all)
 }
 
-fn is_history(history: &[(Call, Reply)], told: &[Told]) -> bool {
-    history.iter().zip(told).all(|((call, reply), told)| *call == *told.call
-        && *reply == told.reply)
+fn is_history(history: &[(Call, Reply)], emitted: &[Emitted]) -> bool {
+    history.iter().zip(emitted).all(|((call, reply), emitted)| *call == *emitted.call
+        && *reply == emitted.reply)
 }
 
 // Makes the calls on a layer of one thread. It must give the same answers, and write this text.
-fn draw_again(mut layered: Layered<Tape, ()>, told: Vec<Told>, text: &[u8]) -> anyhow::Result<()> {
-    for Told { place, call, reply } in told {
+fn draw_again(
+    mut layered: Layered<Tape, ()>,
+    emitted: Vec<Emitted>,
+    text: &[u8],
+) -> anyhow::Result<()> {
+    for Emitted { place, call, reply } in emitted {
         anyhow::ensure!(
             layered.call(Box::into_inner(call)) == Ok(reply),
             "a layer of one thread answers call {place} otherwise"

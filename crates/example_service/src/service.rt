@@ -7,32 +7,32 @@ use tracing_tree_tracer::{Calls, Now, TraceFault, Tracer, within};
 
 // Why a request isn't served.
 #[derive(Clone, Copy)]
-enum Trouble {
+enum ServiceError {
     NoRequest,
     TooFew,
     Memory,
     Trace(TraceFault),
 }
 
-impl From<TraceFault> for Trouble {
-    fn from(fault: TraceFault) -> Trouble {
-        Trouble::Trace(fault)
+impl From<TraceFault> for ServiceError {
+    fn from(fault: TraceFault) -> ServiceError {
+        ServiceError::Trace(fault)
     }
 }
 
-impl From<AllocError> for Trouble {
-    fn from(_error: AllocError) -> Trouble {
-        Trouble::Memory
+impl From<AllocError> for ServiceError {
+    fn from(_error: AllocError) -> ServiceError {
+        ServiceError::Memory
     }
 }
 
-impl Trouble {
+impl ServiceError {
     fn text(self) -> &'static str {
         match self {
-            Trouble::NoRequest => "no such request",
-            Trouble::TooFew => "too few in stock",
-            Trouble::Memory => "no memory",
-            Trouble::Trace(_) => "no trace",
+            ServiceError::NoRequest => "no such request",
+            ServiceError::TooFew => "too few in stock",
+            ServiceError::Memory => "no memory",
+            ServiceError::Trace(_) => "no trace",
         }
     }
 }
@@ -104,9 +104,9 @@ fn is_served<C: Calls, N: Now>(
             tracer.info("served", &[])?;
             Ok(true)
         }
-        Err(Trouble::Trace(fault)) => Err(fault),
-        Err(trouble) => {
-            tracer.error("refused", &[("why", Plain(trouble.text()))])?;
+        Err(ServiceError::Trace(fault)) => Err(fault),
+        Err(error) => {
+            tracer.error("refused", &[("why", Plain(error.text()))])?;
             Ok(false)
         }
     }
@@ -116,9 +116,9 @@ fn answer<C: Calls, N: Now>(
     tracer: &mut Tracer<C, N>,
     stock: &mut Stock,
     line: &str,
-) -> Result<(), Trouble> {
+) -> Result<(), ServiceError> {
     let Some(Request { verb, count, item }) = parse(line) else {
-        return Err(Trouble::NoRequest);
+        return Err(ServiceError::NoRequest);
     };
     let fields = [("item", Quoted(item)), ("count", Whole(i128::from(count)))];
     match verb {
@@ -142,7 +142,7 @@ fn put<C: Calls, N: Now>(
     stock: &mut Stock,
     item: &str,
     count: u64,
-) -> Result<(), Trouble> {
+) -> Result<(), ServiceError> {
     let now = stock.count(item).saturating_add(count);
     stock.set(item, now)?;
     tracer.debug("stored", &[("left", Whole(i128::from(now)))])?;
@@ -154,11 +154,11 @@ fn take<C: Calls, N: Now>(
     stock: &mut Stock,
     item: &str,
     count: u64,
-) -> Result<(), Trouble> {
+) -> Result<(), ServiceError> {
     let before = stock.count(item);
     let Some(now) = before.checked_sub(count) else {
         tracer.warn("too few", &[("left", Whole(i128::from(before)))])?;
-        return Err(Trouble::TooFew);
+        return Err(ServiceError::TooFew);
     };
     stock.set(item, now)?;
     tracer.debug("taken", &[("left", Whole(i128::from(now)))])?;

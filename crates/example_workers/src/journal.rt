@@ -51,7 +51,7 @@ impl<R: Wait, W: Output> Journal<'_, R, W> {
     }
 
     /// Records an event in a span, with these numbers.
-    pub fn tell(
+    pub fn event(
         &mut self,
         level: Level,
         message: &str,

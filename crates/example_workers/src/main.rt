@@ -38,8 +38,8 @@ fn main(rt: HostRuntime) -> anyhow::Result<()> {
 }
 
 fn is_check(rt: &(impl AllocGlobal + Env)) -> anyhow::Result<bool> {
-    let mut words = std::env::args(rt)?.skip(1);
-    let Some(word) = words.next() else {
+    let mut args = std::env::args(rt)?.skip(1);
+    let Some(word) = args.next() else {
         return Ok(false);
     };
     if word.as_str() != "check" {

@@ -26,7 +26,7 @@ pub struct Warehouse {
 }
 
 impl Warehouse {
-    /// Opens a warehouse in which all orders wait.
+    /// Opens a warehouse whose orders all wait.
     pub fn open(alloc: Global) -> Result<Warehouse, AllocError> {
         let mut queue = VecDeque::new(alloc);
         for id in 1..=ORDERS {

@@ -91,13 +91,13 @@ fn serve<R: Wait + Clock, W: Output>(
     match left {
         Some(left) => {
             let numbers = [("order", order.id), ("left", left)];
-            journal.tell(Level::Debug, "in stock", &numbers, span)?;
+            journal.event(Level::Debug, "in stock", &numbers, span)?;
             pack(journal, order, span)?;
             journal.done.shipped = journal.done.shipped.saturating_add(1);
         }
         None => {
             let numbers = [("order", order.id), ("pieces", order.pieces)];
-            journal.tell(Level::Error, "not enough in stock", &numbers, span)?;
+            journal.event(Level::Error, "not enough in stock", &numbers, span)?;
             journal.done.refused = journal.done.refused.saturating_add(1);
         }
     }
@@ -114,7 +114,7 @@ fn pack<R: Wait + Clock, W: Output>(
     for piece in 1..=order.pieces {
         thread::sleep(journal.rt, Duration::from_millis(PIECE_MILLIS));
         let numbers = [("order", order.id), ("piece", piece)];
-        journal.tell(Level::Info, "packed", &numbers, box_span)?;
+        journal.event(Level::Info, "packed", &numbers, box_span)?;
     }
     journal.close(box_span)
 }

@@ -59,14 +59,14 @@ fn main(rt: HostRuntime) -> io::Result<()> {
     let mut total = Tally::NONE;
     for folder in FOLDERS {
         let tally = run_folder(&rt, folder)?;
-        tell(&rt, folder, tally)?;
+        emit(&rt, folder, tally)?;
         total = total.with(tally);
     }
-    tell(&rt, "total", total)
+    emit(&rt, "total", total)
 }
 
 // Prints a tally under a name.
-fn tell(rt: &impl Print, name: &str, tally: Tally) -> io::Result<()> {
+fn emit(rt: &impl Print, name: &str, tally: Tally) -> io::Result<()> {
     let Tally { cases, passed } = tally;
     println!(rt; "{name}: {passed} of {cases}")
 }
@@ -101,13 +101,13 @@ fn passes<R: AllocGlobal + Files>(rt: &R, case: &str) -> io::Result<bool> {
     let alloc = rt.alloc();
     let input = read_part(rt, case, "in")?;
     let run = run_lines(alloc, input.as_slice(), Tape::new(alloc));
-    let told = fault_line(alloc, &run.fault)?;
+    let emitted = fault_line(alloc, &run.fault)?;
     let ended = format!(in alloc; "{}", status(&run.fault, true))?;
     let out = read_part(rt, case, "out")?;
     let err = read_part_or(rt, case, "err", "")?;
     let wanted = read_part_or(rt, case, "status", "0")?;
     let drawn = run.writer.bytes() == out.as_slice();
-    let blamed = told.as_bytes() == err.as_slice();
+    let blamed = emitted.as_bytes() == err.as_slice();
     Ok(drawn && blamed && ended.as_bytes() == wanted.trim_ascii())
 }
 

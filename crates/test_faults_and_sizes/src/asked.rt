@@ -1,6 +1,6 @@
 //! How often a writer and a timer are called.
 
-use crate::fakes::{Choppy, Trouble};
+use crate::fakes::{Choppy, Failure};
 use std::alloc::{AllocError, Global};
 use std::cell::Cell;
 use std::process::Abort;
@@ -16,7 +16,7 @@ type Counted = Layered<Wrap<Choppy>, ()>;
 
 // Returns a layer that shows all that it can, over a writer that takes all.
 fn counted(alloc: Global, retrace: bool) -> Result<Box<Counted>, AllocError> {
-    let writer = Wrap::new(Choppy::new(alloc, usize::MAX, Trouble::NONE));
+    let writer = Wrap::new(Choppy::new(alloc, usize::MAX, Failure::NONE));
     let layer = HierarchicalLayer::new(alloc, 2, false, writer)
         .with_indent_lines(true)
         .with_verbose_entry(true)
@@ -62,11 +62,11 @@ const STEPS: [Step<'static>; 15] = [
     Step::New("c", Some(2)),
     Step::New("d", Some(3)),
     Step::New("e", None),
-    Step::Told(Level::Info, "x\ny", Some(4)),
-    Step::Told(Level::Info, "x", Some(5)),
+    Step::Event(Level::Info, "x\ny", Some(4)),
+    Step::Event(Level::Info, "x", Some(5)),
     Step::Record(4, "1"),
     Step::Clone(5),
-    Step::Told(Level::Info, "x", Some(4)),
+    Step::Event(Level::Info, "x", Some(4)),
     Step::Close(5),
     Step::Close(1),
     Step::Close(2),
@@ -176,8 +176,8 @@ fn asks(
 const OUTSIDE: [Step<'static>; 4] = [
     Step::New("a", None),
     Step::Close(1),
-    Step::Told(Level::Info, "x", Some(1)),
-    Step::Told(Level::Info, "x", None),
+    Step::Event(Level::Info, "x", Some(1)),
+    Step::Event(Level::Info, "x", None),
 ];
 
 #[test]

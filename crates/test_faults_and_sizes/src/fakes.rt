@@ -52,23 +52,23 @@ pub const ERRORS: [ErrorKind; 41] = [
 /// A fault of attempts: `times` attempts fail with this kind, from number `first` on, counted from
 /// 1.
 #[derive(Clone, Copy, Debug)]
-pub struct Trouble {
+pub struct Failure {
     pub first: usize,
     pub times: usize,
     pub kind: ErrorKind,
 }
 
-impl Trouble {
+impl Failure {
     /// No attempt fails.
-    pub const NONE: Trouble = Trouble {
+    pub const NONE: Failure = Failure {
         first: 0,
         times: 0,
         kind: ErrorKind::Other,
     };
 
     /// One attempt fails, and later ones do not.
-    pub fn once(first: usize, kind: ErrorKind) -> Trouble {
-        Trouble {
+    pub fn once(first: usize, kind: ErrorKind) -> Failure {
+        Failure {
             first,
             times: 1,
             kind,
@@ -76,8 +76,8 @@ impl Trouble {
     }
 
     /// Interrupts `times` attempts from number `first` on.
-    pub fn interrupted(first: usize, times: usize) -> Trouble {
-        Trouble {
+    pub fn interrupted(first: usize, times: usize) -> Failure {
+        Failure {
             first,
             times,
             kind: ErrorKind::Interrupted,
@@ -101,30 +101,30 @@ pub struct Choppy {
     pub writes: usize,
     pub shown: Vec<usize>,
     piece: usize,
-    writing: Trouble,
-    flushing: Trouble,
+    writing: Failure,
+    flushing: Failure,
 }
 
 impl Choppy {
-    pub fn new(alloc: Global, piece: usize, writing: Trouble) -> Choppy {
+    pub fn new(alloc: Global, piece: usize, writing: Failure) -> Choppy {
         Choppy {
             taken: Vec::new(alloc),
             writes: 0,
             shown: Vec::new(alloc),
             piece,
             writing,
-            flushing: Trouble::NONE,
+            flushing: Failure::NONE,
         }
     }
 
     /// Takes everything, with this fault in its flushes.
-    pub fn flushing(alloc: Global, flushing: Trouble) -> Choppy {
+    pub fn flushing(alloc: Global, flushing: Failure) -> Choppy {
         Choppy {
             taken: Vec::new(alloc),
             writes: 0,
             shown: Vec::new(alloc),
             piece: usize::MAX,
-            writing: Trouble::NONE,
+            writing: Failure::NONE,
             flushing,
         }
     }
@@ -152,17 +152,17 @@ pub struct Halting<'a> {
     pub first: usize,
     pub piece: usize,
     pub reads: usize,
-    pub trouble: Trouble,
+    pub failure: Failure,
 }
 
 impl<'a> Halting<'a> {
-    pub fn new(rest: &'a [u8], piece: usize, trouble: Trouble) -> Halting<'a> {
+    pub fn new(rest: &'a [u8], piece: usize, failure: Failure) -> Halting<'a> {
         Halting {
             rest,
             first: 0,
             piece,
             reads: 0,
-            trouble,
+            failure,
         }
     }
 }
@@ -170,7 +170,7 @@ impl<'a> Halting<'a> {
 impl Read for Halting<'_> {
     fn read(&mut self, buf: &mut [u8]) -> io::Result<usize> {
         self.reads = self.reads.wrapping_add(1);
-        self.trouble.meets(self.reads)?;
+        self.failure.meets(self.reads)?;
         let most = if self.first > 0 {
             self.first
         } else {

@@ -1,6 +1,6 @@
 //! Lines over readers and writers that meet trouble at any of them.
 
-use crate::fakes::{Choppy, ERRORS, Halting, Trouble};
+use crate::fakes::{Choppy, ERRORS, Failure, Halting};
 use std::alloc::{AllocError, Global};
 use std::io::ErrorKind;
 use std::process::Abort;
@@ -67,15 +67,15 @@ fn reads(alloc: Global) -> Result<Vec<(usize, usize)>, AllocError> {
 
 // Over a reader that gives a byte a read, so that the reads of a line are known, and meets this
 // trouble, the run ends so.
-fn reads_end(rt: &(impl Abort + AllocGlobal), trouble: Trouble, wanted: End) {
-    let end = read_by(rt.alloc(), Halting::new(INPUT.as_bytes(), 1, trouble));
-    assert_eq!(rt; end, wanted, "{trouble:?}");
+fn reads_end(rt: &(impl Abort + AllocGlobal), failure: Failure, wanted: End) {
+    let end = read_by(rt.alloc(), Halting::new(INPUT.as_bytes(), 1, failure));
+    assert_eq!(rt; end, wanted, "{failure:?}");
 }
 
 // One read of this line, which has this number, fails in each way.
 fn reads_fail(rt: &(impl Abort + AllocGlobal), line: usize, first: usize) {
     for kind in ERRORS {
-        reads_end(rt, Trouble::once(first, kind), ended(line, LineCause::Read));
+        reads_end(rt, Failure::once(first, kind), ended(line, LineCause::Read));
     }
 }
 
@@ -90,9 +90,9 @@ fn reads_fail_in_each_line_and_way(rt: HostRuntime) -> Result<(), Fail> {
 #[test]
 fn reads_are_interrupted_in_each_line(rt: HostRuntime) -> Result<(), Fail> {
     for (line, first) in reads(rt.alloc())? {
-        reads_end(&rt, Trouble::interrupted(first, 8), WHOLE);
+        reads_end(&rt, Failure::interrupted(first, 8), WHOLE);
         let failed = ended(line, LineCause::Read);
-        reads_end(&rt, Trouble::interrupted(first, 9), failed);
+        reads_end(&rt, Failure::interrupted(first, 9), failed);
     }
     Ok(())
 }
@@ -108,7 +108,7 @@ fn spaced(alloc: Global, text: &str, spaces: usize) -> Result<String, AllocError
 #[test]
 fn a_line_comes_in_many_parts(rt: HostRuntime) -> Result<(), Fail> {
     let input = spaced(rt.alloc(), "{}\n", 200_000)?;
-    let end = read_by(rt.alloc(), Halting::new(input.as_bytes(), 1, Trouble::NONE));
+    let end = read_by(rt.alloc(), Halting::new(input.as_bytes(), 1, Failure::NONE));
     assert_eq!(rt; end, (None, 0, 0));
     Ok(())
 }
@@ -118,7 +118,7 @@ const BEGINNING: &str = "{\"indent_lines\":true}\n{\"call\":\"new\",\"name\":\"a
 
 // Returns how much is shown at each flush of a run over this reader.
 fn shown_by(alloc: Global, reader: Halting<'_>) -> Vec<usize> {
-    let writer = Wrap::new(Choppy::new(alloc, usize::MAX, Trouble::NONE));
+    let writer = Wrap::new(Choppy::new(alloc, usize::MAX, Failure::NONE));
     run_lines(alloc, reader, writer).writer.into_inner().shown
 }
 
@@ -126,7 +126,7 @@ fn shown_by(alloc: Global, reader: Halting<'_>) -> Vec<usize> {
 // shown before each read after it.
 fn shown(alloc: Global, begun: usize) -> Result<Vec<usize>, AllocError> {
     let input = spaced(alloc, BEGINNING, begun.saturating_add(10))?;
-    let mut reader = Halting::new(input.as_bytes(), usize::MAX, Trouble::NONE);
+    let mut reader = Halting::new(input.as_bytes(), usize::MAX, Failure::NONE);
     reader.first = BEGINNING.len().saturating_add(begun);
     Ok(shown_by(alloc, reader))
 }
@@ -160,15 +160,15 @@ fn written_by(alloc: Global, writer: Choppy) -> (End, usize) {
 
 // Runs the lines over a writer with this fault, and checks how the run ends and how often the
 // writer is called.
-fn writes_end(rt: &(impl Abort + AllocGlobal), trouble: Trouble, wanted: (End, usize)) {
-    let writer = Choppy::new(rt.alloc(), usize::MAX, trouble);
-    assert_eq!(rt; written_by(rt.alloc(), writer), wanted, "{trouble:?}");
+fn writes_end(rt: &(impl Abort + AllocGlobal), failure: Failure, wanted: (End, usize)) {
+    let writer = Choppy::new(rt.alloc(), usize::MAX, failure);
+    assert_eq!(rt; written_by(rt.alloc(), writer), wanted, "{failure:?}");
 }
 
 // The write of this call fails in each way.
 fn writes_fail(rt: &(impl Abort + AllocGlobal), call: usize, line: usize) {
     for kind in ERRORS {
-        writes_end(rt, Trouble::once(call, kind), (refused(line), call));
+        writes_end(rt, Failure::once(call, kind), (refused(line), call));
     }
 }
 
@@ -182,38 +182,38 @@ fn writes_fail_in_each_line_and_way(rt: HostRuntime) {
 #[test]
 fn writes_are_interrupted_in_each_line(rt: HostRuntime) {
     for (call, line) in CALLS {
-        writes_end(&rt, Trouble::interrupted(call, 8), (WHOLE, 11));
+        writes_end(&rt, Failure::interrupted(call, 8), (WHOLE, 11));
         let failed = (refused(line), call.saturating_add(8));
-        writes_end(&rt, Trouble::interrupted(call, 9), failed);
+        writes_end(&rt, Failure::interrupted(call, 9), failed);
     }
 }
 
 #[test]
 fn no_write_takes_anything(rt: HostRuntime) {
-    let writer = Choppy::new(rt.alloc(), 0, Trouble::NONE);
+    let writer = Choppy::new(rt.alloc(), 0, Failure::NONE);
     assert_eq!(rt; written_by(rt.alloc(), writer), (refused(2), 1));
 }
 
 // Runs the lines, one byte per read, over a writer with this fault in its flushes. Returns how the
 // run ended, and whether the output is stuck.
-fn flushed_by(alloc: Global, input: &[u8], trouble: Trouble) -> (End, bool) {
-    let reader = Halting::new(input, 1, Trouble::NONE);
-    let ran = run_lines(alloc, reader, Wrap::new(Choppy::flushing(alloc, trouble)));
+fn flushed_by(alloc: Global, input: &[u8], failure: Failure) -> (End, bool) {
+    let reader = Halting::new(input, 1, Failure::NONE);
+    let ran = run_lines(alloc, reader, Wrap::new(Choppy::flushing(alloc, failure)));
     let (fault, accepted, stuck) = (ran.fault, ran.accepted, ran.writer.is_stuck());
     let bytes = ran.writer.into_inner().taken.len();
     ((fault, accepted, bytes), stuck)
 }
 
 // Runs the lines over a writer with this fault in its flushes, and checks how the run ends.
-fn flushes_end(rt: &(impl Abort + AllocGlobal), trouble: Trouble, wanted: (End, bool)) {
-    let end = flushed_by(rt.alloc(), INPUT.as_bytes(), trouble);
-    assert_eq!(rt; end, wanted, "{trouble:?}");
+fn flushes_end(rt: &(impl Abort + AllocGlobal), failure: Failure, wanted: (End, bool)) {
+    let end = flushed_by(rt.alloc(), INPUT.as_bytes(), failure);
+    assert_eq!(rt; end, wanted, "{failure:?}");
 }
 
 // The flush of this number fails in each way.
 fn flushes_fail(rt: &(impl Abort + AllocGlobal), flush: usize, wanted: (End, bool)) {
     for kind in ERRORS {
-        flushes_end(rt, Trouble::once(flush, kind), wanted);
+        flushes_end(rt, Failure::once(flush, kind), wanted);
     }
 }
 
@@ -225,18 +225,18 @@ fn flushes_fail_before_each_line_and_in_each_way(rt: HostRuntime) {
     for (flush, line) in CALLS {
         let wanted = (refused(line), true);
         flushes_fail(&rt, flush, wanted);
-        flushes_end(&rt, Trouble::interrupted(flush, 9), wanted);
-        flushes_end(&rt, Trouble::interrupted(flush, 8), (WHOLE, false));
+        flushes_end(&rt, Failure::interrupted(flush, 9), wanted);
+        flushes_end(&rt, Failure::interrupted(flush, 8), (WHOLE, false));
     }
     flushes_fail(&rt, 4, (WHOLE, true));
 }
 
 // A line that is skipped, and so a second flush, comes before the first call that draws.
 #[test]
-fn a_refused_flush_is_told_after_a_skipped_line(rt: HostRuntime) {
+fn a_refused_flush_is_reported_after_a_skipped_line(rt: HostRuntime) {
     let input = b"{}\n\n{\"call\":\"new\",\"name\":\"a\"}\n".as_slice();
-    let trouble = Trouble::once(1, ErrorKind::BrokenPipe);
-    let ((fault, accepted, _bytes), _stuck) = flushed_by(rt.alloc(), input, trouble);
+    let failure = Failure::once(1, ErrorKind::BrokenPipe);
+    let ((fault, accepted, _bytes), _stuck) = flushed_by(rt.alloc(), input, failure);
     let cause = LineCause::Refused(Refusal::Writer);
     assert_eq!(rt; fault, Some(LineFault { line: 3, cause }));
     assert_eq!(rt; accepted, 0);

@@ -57,8 +57,8 @@ const AFTER_A_CLOSE: [(Step<'static>, Answer); 10] = [
     (Step::New("c", Some(1)), GONE),
     (Step::NewIn("c", Parent::Of(Id(1)), Some(2)), GONE),
     (Step::Record(1, "1"), Ok(Reply::Done)),
-    (Step::Told(Level::Info, "x", Some(1)), Ok(Reply::Done)),
-    (Step::ToldIn("y", Parent::Of(Id(1)), None), Ok(Reply::Done)),
+    (Step::Event(Level::Info, "x", Some(1)), Ok(Reply::Done)),
+    (Step::EventIn("y", Parent::Of(Id(1)), None), Ok(Reply::Done)),
 ];
 
 #[test]
@@ -107,10 +107,10 @@ const TOO_WIDE: [(Step<'static>, Answer); 5] = [
     (Step::New("b", Some(1)), Ok(Reply::Span(Id(2)))),
     (Step::New("c", Some(2)), Ok(Reply::Span(Id(3)))),
     (
-        Step::ToldIn("x", Parent::Of(Id(3)), None),
+        Step::EventIn("x", Parent::Of(Id(3)), None),
         Err(Refusal::TooWide),
     ),
-    (Step::Told(Level::Info, "y", None), Ok(Reply::Done)),
+    (Step::Event(Level::Info, "y", None), Ok(Reply::Done)),
 ];
 
 #[test]
@@ -120,13 +120,13 @@ fn a_row_with_lines_is_too_wide(rt: HostRuntime) -> Result<(), Fail> {
 }
 
 // An event outside every span with this message draws this.
-fn tells(
+fn emits(
     rt: &(impl Abort + AllocGlobal),
     settings: Settings,
     message: &str,
     text: &str,
 ) -> Result<(), AllocError> {
-    let step = Step::Told(Level::Info, message, None);
+    let step = Step::Event(Level::Info, message, None);
     let drawn = drawn(rt.alloc(), settings, [step].as_slice())?;
     assert_eq!(rt; drawn.as_str(), text, "{message:?}");
     Ok(())
@@ -154,15 +154,15 @@ const MESSAGES: [(&str, &str, &str); 9] = [
 #[test]
 fn texts_with_line_ends_are_drawn(rt: HostRuntime) -> Result<(), Fail> {
     for (message, lined, plain) in MESSAGES {
-        tells(&rt, LINED, message, lined)?;
-        tells(&rt, PLAIN, message, plain)?;
+        emits(&rt, LINED, message, lined)?;
+        emits(&rt, PLAIN, message, plain)?;
     }
     Ok(())
 }
 
 const TWO_LINES: [(Step<'static>, Answer); 2] = [
     (Step::New("a", None), Ok(Reply::Span(Id(1)))),
-    (Step::Told(Level::Info, "x\r\ny", Some(1)), Ok(Reply::Done)),
+    (Step::Event(Level::Info, "x\r\ny", Some(1)), Ok(Reply::Done)),
 ];
 
 #[test]

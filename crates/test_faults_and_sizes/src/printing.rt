@@ -1,6 +1,6 @@
 //! Rows that are printed by writers and from readers that meet trouble at any place.
 
-use crate::fakes::{Choppy, ERRORS, Halting, Trouble};
+use crate::fakes::{Choppy, ERRORS, Failure, Halting};
 use std::alloc::{AllocError, Global};
 use std::process::Abort;
 use std::test::*;
@@ -30,17 +30,17 @@ fn printed(alloc: Global, reader: Halting<'_>, mut writer: Choppy) -> (Vec<u8>, 
 }
 
 // Checks that the bytes taken are a prefix of the expected output.
-fn begins(rt: &impl Abort, taken: &[u8], trouble: Trouble) {
-    assert!(rt; PRINTED.as_bytes().starts_with(taken), "{trouble:?}");
+fn begins(rt: &impl Abort, taken: &[u8], failure: Failure) {
+    assert!(rt; PRINTED.as_bytes().starts_with(taken), "{failure:?}");
 }
 
 // Writes in pieces with this fault. Checks how many bytes are taken, and how the reading ends.
-fn takes(rt: &(impl Abort + AllocGlobal), piece: usize, trouble: Trouble, wanted: (usize, Ended)) {
-    let reader = Halting::new(TREE.as_bytes(), usize::MAX, Trouble::NONE);
-    let writer = Choppy::new(rt.alloc(), piece, trouble);
+fn takes(rt: &(impl Abort + AllocGlobal), piece: usize, failure: Failure, wanted: (usize, Ended)) {
+    let reader = Halting::new(TREE.as_bytes(), usize::MAX, Failure::NONE);
+    let writer = Choppy::new(rt.alloc(), piece, failure);
     let (taken, ended) = printed(rt.alloc(), reader, writer);
-    begins(rt, taken.as_slice(), trouble);
-    assert_eq!(rt; (taken.len(), ended), wanted, "{trouble:?}");
+    begins(rt, taken.as_slice(), failure);
+    assert_eq!(rt; (taken.len(), ended), wanted, "{failure:?}");
 }
 
 // A byte a write: each write is interrupted, once and twice in a row.
@@ -48,8 +48,8 @@ fn takes(rt: &(impl Abort + AllocGlobal), piece: usize, trouble: Trouble, wanted
 fn each_write_is_interrupted(rt: HostRuntime) {
     let whole = (PRINTED.len(), Ok(()));
     for first in 1..=PRINTED.len() {
-        takes(&rt, 1, Trouble::interrupted(first, 1), whole);
-        takes(&rt, 1, Trouble::interrupted(first, 2), whole);
+        takes(&rt, 1, Failure::interrupted(first, 1), whole);
+        takes(&rt, 1, Failure::interrupted(first, 2), whole);
     }
 }
 
@@ -60,8 +60,8 @@ fn row_is_refused(rt: &(impl Abort + AllocGlobal), place: usize, before: usize, 
         cause: RowCause::Writer,
     };
     for taken in before..=before.saturating_add(length) {
-        let trouble = Trouble::once(taken.saturating_add(1), ERRORS[0]);
-        takes(rt, 1, trouble, (taken, Err(fault)));
+        let failure = Failure::once(taken.saturating_add(1), ERRORS[0]);
+        takes(rt, 1, failure, (taken, Err(fault)));
     }
 }
 
@@ -84,7 +84,7 @@ fn writes_fail_in_each_way(rt: HostRuntime) {
         cause: RowCause::Writer,
     };
     for kind in ERRORS {
-        takes(&rt, 3, Trouble::once(11, kind), (30, Err(fault)));
+        takes(&rt, 3, Failure::once(11, kind), (30, Err(fault)));
     }
 }
 
@@ -95,12 +95,12 @@ fn line_ends(bytes: &[u8]) -> usize {
 
 // Reads one byte at a time with this fault. Checks how many rows are printed, and how the reading
 // ends.
-fn gives(rt: &(impl Abort + AllocGlobal), trouble: Trouble, wanted: (usize, Ended)) {
-    let reader = Halting::new(TREE.as_bytes(), 1, trouble);
-    let writer = Choppy::new(rt.alloc(), usize::MAX, Trouble::NONE);
+fn gives(rt: &(impl Abort + AllocGlobal), failure: Failure, wanted: (usize, Ended)) {
+    let reader = Halting::new(TREE.as_bytes(), 1, failure);
+    let writer = Choppy::new(rt.alloc(), usize::MAX, Failure::NONE);
     let (taken, ended) = printed(rt.alloc(), reader, writer);
-    begins(rt, taken.as_slice(), trouble);
-    assert_eq!(rt; (line_ends(taken.as_slice()), ended), wanted, "{trouble:?}");
+    begins(rt, taken.as_slice(), failure);
+    assert_eq!(rt; (line_ends(taken.as_slice()), ended), wanted, "{failure:?}");
 }
 
 // Fails each read of a row, after the reads of the rows before it.
@@ -111,10 +111,10 @@ fn row_is_not_given(rt: &(impl Abort + AllocGlobal), place: usize, before: usize
     };
     for past in 1..=length {
         let read = before.saturating_add(past);
-        let failed = Trouble::once(read, ERRORS[read % 41]);
+        let failed = Failure::once(read, ERRORS[read % 41]);
         gives(rt, failed, (place, Err(fault)));
-        gives(rt, Trouble::interrupted(read, 9), (place, Err(fault)));
-        gives(rt, Trouble::interrupted(read, 8), (5, Ok(())));
+        gives(rt, Failure::interrupted(read, 9), (place, Err(fault)));
+        gives(rt, Failure::interrupted(read, 8), (5, Ok(())));
     }
 }
 
@@ -138,8 +138,8 @@ fn event(alloc: Global, bytes: usize) -> Result<String, AllocError> {
 
 // Returns how many bytes of this text a writer prints that takes one byte per write.
 fn printed_by_bytes(alloc: Global, text: &str) -> usize {
-    let reader = Halting::new(text.as_bytes(), usize::MAX, Trouble::NONE);
-    let writer = Choppy::new(alloc, 1, Trouble::NONE);
+    let reader = Halting::new(text.as_bytes(), usize::MAX, Failure::NONE);
+    let writer = Choppy::new(alloc, 1, Failure::NONE);
     match printed(alloc, reader, writer) {
         (taken, Ok(())) => taken.len(),
         (_, Err(_)) => 0,

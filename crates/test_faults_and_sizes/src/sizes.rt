@@ -1,4 +1,4 @@
-//! Runs in which one quantity has each size, through a layer with its registry and through bare
+//! Runs that give one quantity each size, through a layer with its registry and through bare
 //! layers over both kinds of live spans, and single values that are far larger.
 
 mod bare;

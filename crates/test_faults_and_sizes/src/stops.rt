@@ -1,6 +1,6 @@
 //! A run over a writer that takes pieces and refuses one write: each size of piece, and each write.
 
-use crate::fakes::{Choppy, Trouble};
+use crate::fakes::{Choppy, Failure};
 use std::alloc::{AllocError, Global};
 use std::io::ErrorKind;
 use std::process::Abort;
@@ -16,7 +16,7 @@ use tracing_tree::style::Level;
 const STEPS: [Step<'static>; 5] = [
     Step::New("a", None),
     Step::New("b", Some(1)),
-    Step::Told(Level::Warn, "x", Some(2)),
+    Step::Event(Level::Warn, "x", Some(2)),
     Step::Close(2),
     Step::Close(1),
 ];
@@ -39,7 +39,7 @@ const DRAWN: [usize; 5] = [6, 12, 16, 10, 4];
 // Every kind of call, of spans that live or not.
 const LATER: [Step<'static>; 7] = [
     Step::New("c", None),
-    Step::Told(Level::Info, "x", None),
+    Step::Event(Level::Info, "x", None),
     Step::Record(1, "1"),
     Step::Clone(1),
     Step::Clone(9),
@@ -117,8 +117,8 @@ fn expected(piece: usize, stop: usize) -> End {
 // A run over a writer that stops.
 type Stopping = Layered<Wrap<Choppy>, ()>;
 
-fn stopping(alloc: Global, piece: usize, trouble: Trouble) -> Result<Box<Stopping>, AllocError> {
-    lined_over(alloc, Wrap::new(Choppy::new(alloc, piece, trouble)))
+fn stopping(alloc: Global, piece: usize, failure: Failure) -> Result<Box<Stopping>, AllocError> {
+    lined_over(alloc, Wrap::new(Choppy::new(alloc, piece, failure)))
 }
 
 fn answer(alloc: Global, layered: &mut Stopping, step: Step<'_>) -> Answer {
@@ -187,8 +187,8 @@ fn stays(rt: &(impl Abort + AllocGlobal), layered: &mut Stopping, accepted: usiz
 
 // Makes the calls over this writer, and returns their result.
 fn ends(rt: &(impl Abort + AllocGlobal), piece: usize, stop: usize) -> Result<End, AllocError> {
-    let trouble = Trouble::once(stop, ErrorKind::BrokenPipe);
-    let mut layered = stopping(rt.alloc(), piece, trouble)?;
+    let failure = Failure::once(stop, ErrorKind::BrokenPipe);
+    let mut layered = stopping(rt.alloc(), piece, failure)?;
     let accepted = accepted(rt, &mut layered);
     stays(rt, &mut layered, accepted);
     let bytes = beginning(rt, into_taken(layered).taken.as_slice());
@@ -244,8 +244,8 @@ fn run_of_lines(alloc: Global, writer: Choppy) -> (Option<LineFault>, u64, bool,
 
 // Runs the lines, and returns their result.
 fn lines_end(rt: &(impl Abort + AllocGlobal), piece: usize, stop: usize) -> End {
-    let trouble = Trouble::once(stop, ErrorKind::BrokenPipe);
-    let writer = Choppy::new(rt.alloc(), piece, trouble);
+    let failure = Failure::once(stop, ErrorKind::BrokenPipe);
+    let writer = Choppy::new(rt.alloc(), piece, failure);
     let (fault, accepted, whole, taken) = run_of_lines(rt.alloc(), writer);
     assert_eq!(rt; fault, fault_after(accepted), "{piece} {stop}");
     assert_eq!(rt; whole, fault.is_none(), "{piece} {stop}");
@@ -296,8 +296,8 @@ fn holds_both(alloc: Global, layered: &Stopping) -> bool {
 
 #[test]
 fn a_refused_close_takes_no_handle(rt: HostRuntime) -> Result<(), Fail> {
-    let trouble = Trouble::once(3, ErrorKind::StorageFull);
-    let mut layered = stopping(rt.alloc(), usize::MAX, trouble)?;
+    let failure = Failure::once(3, ErrorKind::StorageFull);
+    let mut layered = stopping(rt.alloc(), usize::MAX, failure)?;
     assert!(rt; closes_both(rt.alloc(), &mut layered) == Err(Refusal::Writer));
     assert!(rt; is_before(&layered, 3));
     assert!(rt; holds_both(rt.alloc(), &layered));

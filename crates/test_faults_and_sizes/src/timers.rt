@@ -109,7 +109,7 @@ fn answers(
     assert!(rt; answer == wanted, "at {mono}: {answer:?}");
 }
 
-const TOLD: Step<'static> = Step::Told(Level::Info, "x", Some(2));
+const TOLD: Step<'static> = Step::Event(Level::Info, "x", Some(2));
 
 #[test]
 fn a_fault_of_the_timer_prints_no_span(rt: HostRuntime) -> Result<(), Fail> {
@@ -124,9 +124,9 @@ fn a_fault_of_the_timer_prints_no_span(rt: HostRuntime) -> Result<(), Fail> {
     Ok(())
 }
 
-const WIDE: Step<'static> = Step::Told(Level::Info, "x", Some(3));
+const WIDE: Step<'static> = Step::Event(Level::Info, "x", Some(3));
 
-const NARROW: Step<'static> = Step::Told(Level::Info, "y", Some(1));
+const NARROW: Step<'static> = Step::Event(Level::Info, "y", Some(1));
 
 // All widths are checked before the timer is called.
 #[test]

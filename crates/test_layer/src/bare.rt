@@ -224,7 +224,7 @@ enum JobStep {
     Enter(&'static str, u64),
 
     // An event with this message, in this span.
-    Tell(&'static str, u64),
+    Emit(&'static str, u64),
 
     // The end of a span.
     Close(u64),
@@ -234,9 +234,9 @@ enum JobStep {
 const JOB_STEPS: [JobStep; 8] = [
     JobStep::Enter("a", 1),
     JobStep::Enter("b", 2),
-    JobStep::Tell("a", 3),
+    JobStep::Emit("a", 3),
     JobStep::Close(3),
-    JobStep::Tell("b", 4),
+    JobStep::Emit("b", 4),
     JobStep::Close(4),
     JobStep::Close(2),
     JobStep::Close(1),
@@ -246,7 +246,7 @@ impl JobStep {
     fn call(self, alloc: Global) -> Result<Call, AllocError> {
         match self {
             JobStep::Enter(name, parent) => spawned(alloc, name, Fields::new(alloc), Some(parent)),
-            JobStep::Tell(message, span) => happened(alloc, message, span),
+            JobStep::Emit(message, span) => happened(alloc, message, span),
             JobStep::Close(id) => Ok(Call::Close(Id(id), on_main(alloc, None)?)),
         }
     }
@@ -345,23 +345,23 @@ fn draws_concurrent_jobs(rt: HostRuntime) -> Result<(), Fail> {
 
 // A call on a layer without a registry, by the number of its span.
 #[derive(Clone, Copy)]
-enum Told {
+enum Emitted {
     New(u64),
     Record(u64),
     Close(u64),
 }
 
 // Makes it on a layer over these spans.
-fn tell<S: LookupSpan>(
+fn emit<S: LookupSpan>(
     alloc: Global,
     layer: &mut HierarchicalLayer<Tape, ()>,
     spans: &mut S,
-    told: Told,
+    emitted: Emitted,
 ) -> Result<(), Refusal> {
-    match told {
-        Told::New(id) => layer.on_new_span(Id(id), spans, &at(None)),
-        Told::Close(id) => layer.on_close(Id(id), spans, &at(None)),
-        Told::Record(id) => {
+    match emitted {
+        Emitted::New(id) => layer.on_new_span(Id(id), spans, &at(None)),
+        Emitted::Close(id) => layer.on_close(Id(id), spans, &at(None)),
+        Emitted::Record(id) => {
             let values = Record {
                 fields: recorded(alloc, "k", "1")?,
             };
@@ -371,25 +371,25 @@ fn tell<S: LookupSpan>(
 }
 
 // Calls made in turn, and their answers.
-const OF_ONE_ROOT: [(Told, Result<(), Refusal>); 7] = [
-    (Told::New(1), Ok(())),
-    (Told::Record(1), Ok(())),
-    (Told::Record(9), Ok(())),
-    (Told::Close(9), Err(Refusal::NotHeld(Id(9)))),
-    (Told::New(9), Err(Refusal::NotHeld(Id(9)))),
-    (Told::Close(1), Ok(())),
-    (Told::Close(1), Ok(())),
+const OF_ONE_ROOT: [(Emitted, Result<(), Refusal>); 7] = [
+    (Emitted::New(1), Ok(())),
+    (Emitted::Record(1), Ok(())),
+    (Emitted::Record(9), Ok(())),
+    (Emitted::Close(9), Err(Refusal::NotHeld(Id(9)))),
+    (Emitted::New(9), Err(Refusal::NotHeld(Id(9)))),
+    (Emitted::Close(1), Ok(())),
+    (Emitted::Close(1), Ok(())),
 ];
 
 // Makes each call in turn, and compares its answer. After each call the layer is no longer fresh.
-fn tells_each<S: LookupSpan>(
+fn emits_each<S: LookupSpan>(
     rt: &impl Abort,
     alloc: Global,
     layer: &mut HierarchicalLayer<Tape, ()>,
     spans: &mut S,
 ) {
-    for (told, wanted) in OF_ONE_ROOT {
-        assert_eq!(rt; tell(alloc, layer, spans, told), wanted);
+    for (emitted, wanted) in OF_ONE_ROOT {
+        assert_eq!(rt; emit(alloc, layer, spans, emitted), wanted);
         assert_eq!(rt; layer.is_fresh(), false);
     }
 }
@@ -409,7 +409,7 @@ fn draws_over_a_registry_alone(rt: HostRuntime) -> Result<(), Fail> {
     let alloc = rt.alloc();
     let mut registry = rooted(alloc)?;
     let mut layer = layer(alloc, 2);
-    tells_each(&rt, alloc, &mut layer, &mut registry);
+    emits_each(&rt, alloc, &mut layer, &mut registry);
     assert_eq!(rt; text(&layer), "┐a \n┘\n┘\n".as_bytes());
     Ok(())
 }
@@ -420,7 +420,7 @@ fn draws_over_a_registry_of_ones_own(rt: HostRuntime) -> Result<(), Fail> {
     let mut lone = Lone::new(alloc, "a")?;
     let mut layer = layer(alloc, 2).with_verbose_exit(true);
     assert_eq!(rt; layer.is_fresh(), true);
-    tells_each(&rt, alloc, &mut layer, &mut lone);
+    emits_each(&rt, alloc, &mut layer, &mut lone);
     assert_eq!(rt; text(&layer), "┐a \n┘a k=1\n┘a k=1\n".as_bytes());
     Ok(())
 }
@@ -430,9 +430,12 @@ fn writes_to_another_writer(rt: HostRuntime) -> Result<(), Fail> {
     let alloc = rt.alloc();
     let mut lone = Lone::new(alloc, "a")?;
     let mut layer = layer(alloc, 2);
-    assert_eq!(rt; tell(alloc, &mut layer, &mut lone, Told::New(1)), Ok(()));
+    assert_eq!(rt; emit(alloc, &mut layer, &mut lone, Emitted::New(1)), Ok(()));
     let mut layer = layer.with_writer(Tape::new(alloc));
-    assert_eq!(rt; tell(alloc, &mut layer, &mut lone, Told::Close(1)), Ok(()));
+    assert_eq!(rt;
+        emit(alloc, &mut layer, &mut lone, Emitted::Close(1)),
+        Ok(())
+    );
     assert_eq!(rt; text(&layer), "┘\n".as_bytes());
     Ok(())
 }

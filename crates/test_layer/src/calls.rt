@@ -13,7 +13,7 @@ use tracing_tree::style::Level;
 pub const TREE: [Step<'static>; 5] = [
     Step::New("a", None),
     Step::New("b", Some(1)),
-    Step::Told(Level::Warn, "x", Some(2)),
+    Step::Event(Level::Warn, "x", Some(2)),
     Step::Close(2),
     Step::Close(1),
 ];
@@ -87,7 +87,7 @@ fn gives_out_the_greatest_id(rt: HostRuntime) -> Result<(), Fail> {
 const NOT_HELD: [(Step<'static>, Answer); 3] = [
     (Step::Close(7), Err(Refusal::NotHeld(Id(7)))),
     (Step::New("a", Some(7)), Err(Refusal::NotHeld(Id(7)))),
-    (Step::Told(Level::Info, "x", Some(7)), Ok(Reply::Done)),
+    (Step::Event(Level::Info, "x", Some(7)), Ok(Reply::Done)),
 ];
 
 #[test]

@@ -154,7 +154,7 @@ impl FormatTime for Star {
 fn starred(alloc: Global) -> Result<Layered<Tape, Star>, Refusal> {
     let layer = HierarchicalLayer::new(alloc, 2, false, Tape::new(alloc)).with_timer(Star);
     let mut layered = Layered::new(alloc, layer);
-    layered.call(Step::Told(Level::Info, "x", None).call(alloc)?)?;
+    layered.call(Step::Event(Level::Info, "x", None).call(alloc)?)?;
     Ok(layered)
 }
 
@@ -199,7 +199,7 @@ impl Output for Counter {
 fn writes_to_an_output_of_ones_own(rt: HostRuntime) -> Result<(), Fail> {
     let alloc = rt.alloc();
     let mut layered = lined_over(alloc, Counter { bytes: 0 })?;
-    let event = Step::Told(Level::Info, "x", None).call(alloc)?;
+    let event = Step::Event(Level::Info, "x", None).call(alloc)?;
     assert_eq!(rt; layered.call(event), Ok(Reply::Done));
     assert_eq!(rt; layered.writer().bytes, "INFO x\n".len());
     Ok(())

@@ -7,12 +7,12 @@ use tracing_tree::calls::Calls;
 use tracing_tree::field::Field;
 use tracing_tree::format::{Context, Id, Refusal, Tape};
 use tracing_tree::layered::Layered;
+use tracing_tree::parts::{EventTexts, FieldTexts};
 use tracing_tree::registry::Parent;
 use tracing_tree::style::Level;
-use tracing_tree::told::{EventTexts, FieldTexts};
 
 // Records an event whose strings the caller lends.
-fn told(layered: &mut Layered<Tape, ()>, here: &Context) -> Result<(), Refusal> {
+fn event_call(layered: &mut Layered<Tape, ()>, here: &Context) -> Result<(), Refusal> {
     let event = EventTexts {
         level: Level::Info,
         target: "web",
@@ -30,7 +30,7 @@ fn told(layered: &mut Layered<Tape, ()>, here: &Context) -> Result<(), Refusal> 
 fn root(alloc: Global, layered: &mut Layered<Tape, ()>) -> Result<Id, Refusal> {
     let attributes = attributes(alloc, "a", Parent::Root)?;
     let id = layered.new_span(attributes, &at(None))?;
-    told(layered, &at(Some(1)))?;
+    event_call(layered, &at(Some(1)))?;
     layered.close(id, &at(None))?;
     Ok(id)
 }

@@ -13,8 +13,8 @@ use tracing_tree::style::Level;
 pub const ALTERNATING: [Step<'static>; 4] = [
     Step::New("a", None),
     Step::New("b", None),
-    Step::Told(Level::Info, "x", Some(1)),
-    Step::Told(Level::Info, "y", Some(2)),
+    Step::Event(Level::Info, "x", Some(1)),
+    Step::Event(Level::Info, "y", Some(2)),
 ];
 
 #[test]
@@ -32,7 +32,7 @@ pub const CHAIN: [Step<'static>; 5] = [
     Step::New("a", None),
     Step::New("b", Some(1)),
     Step::New("c", Some(2)),
-    Step::Told(Level::Info, "x", Some(2)),
+    Step::Event(Level::Info, "x", Some(2)),
     Step::Close(3),
 ];
 
@@ -61,7 +61,7 @@ fn draws_nothing_of_a_deferred_span_without_events(rt: HostRuntime) -> Result<()
 const CLOSED: [Step<'static>; 5] = [
     Step::New("a", None),
     Step::New("b", Some(1)),
-    Step::Told(Level::Info, "x", Some(2)),
+    Step::Event(Level::Info, "x", Some(2)),
     Step::Close(2),
     Step::Close(1),
 ];
@@ -93,8 +93,8 @@ fn labels_the_row_of_a_new_span_that_is_retraced_to(rt: HostRuntime) -> Result<(
 pub const LATE: [Step<'static>; 4] = [
     Step::New("a", None),
     Step::New("b", Some(1)),
-    Step::Told(Level::Info, "x", Some(1)),
-    Step::Told(Level::Info, "y", Some(2)),
+    Step::Event(Level::Info, "x", Some(1)),
+    Step::Event(Level::Info, "y", Some(2)),
 ];
 
 #[test]
@@ -115,7 +115,7 @@ pub const STRANGER: [Step<'static>; 5] = [
     Step::New("b", Some(1)),
     Step::New("c", None),
     Step::Close(2),
-    Step::Told(Level::Info, "x", Some(1)),
+    Step::Event(Level::Info, "x", Some(1)),
 ];
 
 #[test]
@@ -156,7 +156,7 @@ const CLOSED_ROOT: [(Step<'static>, Answer); 2] = [
 
 const NEXT_ROOT: [(Step<'static>, Answer); 2] = [
     (Step::New("b", None), Ok(Reply::Span(Id(2)))),
-    (Step::Told(Level::Info, "x", Some(2)), Ok(Reply::Done)),
+    (Step::Event(Level::Info, "x", Some(2)), Ok(Reply::Done)),
 ];
 
 #[test]
@@ -178,13 +178,13 @@ const TOO_WIDE: [(Step<'static>, Answer); 4] = [
     (Step::New("b", Some(1)), Ok(Reply::Span(Id(2)))),
     (Step::New("c", Some(2)), Ok(Reply::Span(Id(3)))),
     (
-        Step::ToldIn("x", Parent::Of(Id(3)), None),
+        Step::EventIn("x", Parent::Of(Id(3)), None),
         Err(Refusal::TooWide),
     ),
 ];
 
 const NARROW: [(Step<'static>, Answer); 1] = [(
-    Step::Told(Level::Info, "y", Some(1)),
+    Step::Event(Level::Info, "y", Some(1)),
     Ok(Reply::Done),
 )];
 
@@ -208,7 +208,7 @@ fn refuses_a_row_that_is_too_wide(rt: HostRuntime) -> Result<(), Fail> {
 const GONE: [Step<'static>; 4] = [
     Step::New("a", None),
     Step::Close(1),
-    Step::Told(Level::Info, "x", Some(1)),
+    Step::Event(Level::Info, "x", Some(1)),
     Step::New("b", None),
 ];
 
@@ -226,7 +226,7 @@ fn retraces_to_no_span_that_is_gone(rt: HostRuntime) -> Result<(), Fail> {
 const TWO_ROOTS: [Step<'static>; 3] = [
     Step::New("a", None),
     Step::New("b", None),
-    Step::Told(Level::Info, "x", Some(1)),
+    Step::Event(Level::Info, "x", Some(1)),
 ];
 
 // Without retracing nothing is shown again.

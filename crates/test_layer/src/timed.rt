@@ -5,7 +5,7 @@ use jiff::Timestamp;
 use std::alloc::{AllocError, Global};
 use std::cell::Cell;
 use std::test::*;
-use test_support::{Answer, Step, run, told};
+use test_support::{Answer, Step, event_call, run};
 use tracing_tree::call::{Call, Reply};
 use tracing_tree::format::{Id, Refusal, Tape};
 use tracing_tree::layer::HierarchicalLayer;
@@ -63,7 +63,7 @@ fn calls_at(alloc: Global, steps: &[(Step<'_>, u64)]) -> Result<Vec<Call>, Alloc
 // Returns an INFO event outside every span, at an instant of a leap day.
 fn dated(alloc: Global) -> Result<Vec<Call>, AllocError> {
     let call = then(
-        told(alloc, Level::Info, "x", None)?,
+        event_call(alloc, Level::Info, "x", None)?,
         0,
         951_827_696_050_000_000,
     );
@@ -82,7 +82,7 @@ fn dates_an_event(rt: HostRuntime) -> Result<(), Fail> {
 // A root, and an event in it two seconds later.
 const TWO_SECONDS: [(Step<'static>, u64); 2] = [
     (Step::New("a", None), 1_000_000_000),
-    (Step::Told(Level::Info, "x", Some(1)), 3_000_042_000),
+    (Step::Event(Level::Info, "x", Some(1)), 3_000_042_000),
 ];
 
 // Whether the elapsed time is shown with a higher precision, and what is drawn then.
@@ -108,8 +108,8 @@ fn times_an_event_in_a_span(rt: HostRuntime) -> Result<(), Fail> {
 const EARLY_EVENT: [(Step<'static>, u64); 4] = [
     (Step::New("a", None), 1_000_000_000),
     (Step::New("b", Some(1)), 5_000_000_000),
-    (Step::Told(Level::Info, "x", Some(2)), 4_000_000_000),
-    (Step::Told(Level::Info, "y", Some(9)), 4_000_000_000),
+    (Step::Event(Level::Info, "x", Some(2)), 4_000_000_000),
+    (Step::Event(Level::Info, "y", Some(9)), 4_000_000_000),
 ];
 
 #[test]
@@ -124,7 +124,7 @@ fn takes_the_elapsed_time_of_the_current_span(rt: HostRuntime) -> Result<(), Fai
 #[test]
 fn takes_a_timer_of_ones_own(rt: HostRuntime) -> Result<(), Fail> {
     let alloc = rt.alloc();
-    let call = then(told(alloc, Level::Info, "x", None)?, 7_900_000_000, 0);
+    let call = then(event_call(alloc, Level::Info, "x", None)?, 7_900_000_000, 0);
     assert!(rt; draws(alloc, Seconds, vec![in alloc; call]?, "7 INFO x\n")?);
     Ok(())
 }
@@ -132,19 +132,19 @@ fn takes_a_timer_of_ones_own(rt: HostRuntime) -> Result<(), Fail> {
 // Calls, and how often a timer has been called after each.
 const ASKING: [(Step<'static>, u32); 14] = [
     (Step::New("a", None), 0),
-    (Step::Told(Level::Info, "x", Some(1)), 1),
-    (Step::Told(Level::Info, "x", Some(1)), 2),
+    (Step::Event(Level::Info, "x", Some(1)), 1),
+    (Step::Event(Level::Info, "x", Some(1)), 2),
     (Step::New("b", Some(1)), 2),
-    (Step::Told(Level::Info, "x", Some(2)), 3),
-    (Step::Told(Level::Info, "x", Some(2)), 4),
+    (Step::Event(Level::Info, "x", Some(2)), 3),
+    (Step::Event(Level::Info, "x", Some(2)), 4),
     (Step::Close(2), 4),
     (Step::New("c", Some(1)), 4),
-    (Step::Told(Level::Info, "x", Some(3)), 5),
+    (Step::Event(Level::Info, "x", Some(3)), 5),
     (Step::New("d", Some(3)), 5),
-    (Step::Told(Level::Info, "x", Some(4)), 6),
+    (Step::Event(Level::Info, "x", Some(4)), 6),
     (Step::Close(4), 6),
     (Step::Close(3), 6),
-    (Step::Told(Level::Info, "x", Some(1)), 7),
+    (Step::Event(Level::Info, "x", Some(1)), 7),
 ];
 
 // Returns a layered with this timer, under the settings of the Rust crate's test
@@ -188,7 +188,7 @@ fn asks_the_timer_once_an_event(rt: HostRuntime) -> Result<(), Fail> {
 
 const TIMED_OUT: [(Step<'static>, u64); 3] = [
     (Step::New("a", None), 2),
-    (Step::Told(Level::Info, "x", Some(1)), 7),
+    (Step::Event(Level::Info, "x", Some(1)), 7),
     (Step::New("b", None), 0),
 ];
 

@@ -177,7 +177,7 @@ fn took(rt: &impl Abort, sink: &Sink<'_>, taken: &[u8], made: u32, shown: &[usiz
 const CALLS: [Step<'static>; 3] = [
     Step::New("a", None),
     Step::New("b", Some(1)),
-    Step::Told(Level::Info, "x", Some(2)),
+    Step::Event(Level::Info, "x", Some(2)),
 ];
 
 // Makes the calls over a writer with these attempts, checks how many are accepted, and returns the

@@ -3,7 +3,7 @@
 use std::alloc::{AllocError, Global};
 use std::process::Abort;
 use std::test::*;
-use test_support::{at, closed, lined, made, told};
+use test_support::{at, closed, event_call, lined, made};
 use tracing_tree::call::Call;
 use tracing_tree::field::{Field, Fields};
 use tracing_tree::format::Tape;
@@ -175,7 +175,7 @@ fn draws_many_lines(rt: HostRuntime) -> Result<(), Fail> {
     let mut text = String::from_str(alloc, "├─ INFO x\n")?;
     text.push_str("│  x\n".repeat(alloc, LONG - 1)?.as_str())?;
     text.push_str("│  y\n")?;
-    let call = told(alloc, Level::Info, message.as_str(), Some(1))?;
+    let call = event_call(alloc, Level::Info, message.as_str(), Some(1))?;
     script.push(call, 0, text.as_str())?;
     script.runs(&rt)
 }
@@ -188,7 +188,7 @@ fn draws_many_live_spans(rt: HostRuntime) -> Result<(), Fail> {
         script.push(made(alloc, "s", None)?, 0, "┐s \n")?;
     }
     for id in [1, SPANS / 2, SPANS] {
-        let call = told(alloc, Level::Info, "x", Some(id))?;
+        let call = event_call(alloc, Level::Info, "x", Some(id))?;
         script.push(call, 0, "├─ INFO x\n")?;
     }
     for id in 1..=SPANS {

@@ -3,7 +3,7 @@
 
 use std::alloc::{AllocError, Global};
 use std::test::*;
-use test_support::{made, told};
+use test_support::{event_call, made};
 use tracing_tree::call::Reply;
 use tracing_tree::format::{Id, Refusal, Tape};
 use tracing_tree::layer::HierarchicalLayer;
@@ -39,7 +39,7 @@ fn nest(layered: &mut Layered<Tape, ()>, alloc: Global, depth: u64) -> Result<()
 fn answer_at(alloc: Global, depth: u64) -> Result<Result<Reply, Refusal>, Fail> {
     let mut layered = deferring(alloc)?;
     nest(&mut layered, alloc, depth)?;
-    let event = told(alloc, Level::Info, "x", Some(depth))?;
+    let event = event_call(alloc, Level::Info, "x", Some(depth))?;
     Ok(layered.call(event))
 }
 
@@ -58,7 +58,7 @@ fn an_event_too_wide_asks_for_no_memory(rt: HostRuntime) -> Result<(), Fail> {
 }
 
 #[test]
-fn memory_refused_to_a_call_is_told_of_the_call(rt: HostRuntime) -> Result<(), Fail> {
+fn memory_refused_to_a_call_is_reported_by_the_call(rt: HostRuntime) -> Result<(), Fail> {
     let alloc = rt.alloc();
     let text = concat!(
         "{\"indent_amount\":4611686018427387904,\"indent_lines\":true}\n",

@@ -115,7 +115,7 @@ const REFUSED: [(Step<'static>, Answer); 2] = [
 ];
 
 const FAILED: [(Step<'static>, Answer); 2] = [
-    (Step::Told(Level::Info, "x", None), Err(Refusal::Failed)),
+    (Step::Event(Level::Info, "x", None), Err(Refusal::Failed)),
     (Step::Clone(1), Err(Refusal::Failed)),
 ];
 

@@ -294,7 +294,7 @@ fn finds_ancestors(rt: HostRuntime) -> Result<(), Fail> {
 const STEPS: [Step<'static>; 5] = [
     Step::New("a", None),
     Step::New("b", Some(1)),
-    Step::Told(Level::Warn, "x", Some(2)),
+    Step::Event(Level::Warn, "x", Some(2)),
     Step::Close(2),
     Step::Close(1),
 ];
@@ -531,7 +531,7 @@ fn ends_after(alloc: Global, left: u32) -> Result<(), RowFault> {
 }
 
 #[test]
-fn tells_a_fault_of_the_writer(rt: HostRuntime) {
+fn reports_a_fault_of_the_writer(rt: HostRuntime) {
     let cause = RowCause::Writer;
     for (left, line) in [(0, 2), (1, 3), (3, 5), (4, 6)] {
         let fault = RowFault { line, cause };

@@ -169,10 +169,10 @@ const NAMED_PARENTS: [(Step<'static>, Answer); 6] = [
         Ok(Reply::Span(Id(3))),
     ),
     (
-        Step::ToldIn("x", Parent::Of(Id(3)), Some(2)),
+        Step::EventIn("x", Parent::Of(Id(3)), Some(2)),
         Ok(Reply::Done),
     ),
-    (Step::ToldIn("x", Parent::Root, Some(2)), Ok(Reply::Done)),
+    (Step::EventIn("x", Parent::Root, Some(2)), Ok(Reply::Done)),
     (
         Step::NewIn("d", Parent::Of(Id(9)), None),
         Err(Refusal::NotHeld(Id(9))),

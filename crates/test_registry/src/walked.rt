@@ -78,7 +78,7 @@ impl Both {
                 self.record(alloc, Id(id), value)?;
                 Ok(true)
             }
-            Step::Told(_, _, current) | Step::ToldIn(_, _, current) => match current {
+            Step::Event(_, _, current) | Step::EventIn(_, _, current) => match current {
                 Some(id) => self.agree_on(alloc, Id(id)),
                 None => Ok(true),
             },
@@ -164,7 +164,7 @@ fn agree_on_first(alloc: Global, both: &Both) -> Result<bool, AllocError> {
 const CHILD: [Step<'static>; 5] = [
     Step::New("a", None),
     Step::New("b", Some(1)),
-    Step::Told(Level::Warn, "x", Some(2)),
+    Step::Event(Level::Warn, "x", Some(2)),
     Step::Close(2),
     Step::Close(1),
 ];
@@ -174,7 +174,7 @@ const CHAIN: [Step<'static>; 5] = [
     Step::New("a", None),
     Step::New("b", Some(1)),
     Step::New("c", Some(2)),
-    Step::Told(Level::Info, "x", Some(2)),
+    Step::Event(Level::Info, "x", Some(2)),
     Step::Close(3),
 ];
 
@@ -182,8 +182,8 @@ const CHAIN: [Step<'static>; 5] = [
 const ROOTS: [Step<'static>; 4] = [
     Step::New("a", None),
     Step::New("b", None),
-    Step::Told(Level::Info, "x", Some(1)),
-    Step::Told(Level::Info, "y", Some(2)),
+    Step::Event(Level::Info, "x", Some(1)),
+    Step::Event(Level::Info, "y", Some(2)),
 ];
 
 // A root with a child that closes after another root was made.
@@ -192,15 +192,15 @@ const STRANGER: [Step<'static>; 5] = [
     Step::New("b", Some(1)),
     Step::New("c", None),
     Step::Close(2),
-    Step::Told(Level::Info, "x", Some(1)),
+    Step::Event(Level::Info, "x", Some(1)),
 ];
 
 // A root and its child, with an event each.
 const LATE: [Step<'static>; 4] = [
     Step::New("a", None),
     Step::New("b", Some(1)),
-    Step::Told(Level::Info, "x", Some(1)),
-    Step::Told(Level::Info, "y", Some(2)),
+    Step::Event(Level::Info, "x", Some(1)),
+    Step::Event(Level::Info, "y", Some(2)),
 ];
 
 // A handle on a parent that only its child holds, fields that come later, and the end of both.
@@ -220,9 +220,9 @@ const TURNS: [Step<'static>; 10] = [
     Step::NewIn("b", Parent::Root, None),
     Step::NewIn("a", Parent::Of(Id(1)), None),
     Step::NewIn("b", Parent::Of(Id(2)), None),
-    Step::Told(Level::Info, "a", Some(3)),
+    Step::Event(Level::Info, "a", Some(3)),
     Step::Close(3),
-    Step::Told(Level::Info, "b", Some(4)),
+    Step::Event(Level::Info, "b", Some(4)),
     Step::Close(4),
     Step::Close(2),
     Step::Close(1),

@@ -1,6 +1,6 @@
 //! Large inputs, which memory is enough for.
 
-use super::seen::{START, heard};
+use super::seen::{START, interpreted};
 use std::alloc::{AllocError, Global};
 use std::test::*;
 use ttree_go_test::{Failed, GoTest};
@@ -9,7 +9,7 @@ use ttree_tracing::Tracing;
 
 // Runs a source to the input's end. Returns whether each line was known and nothing ended the run.
 fn is_whole<S: Source>(alloc: Global, source: &mut S, input: &str) -> Result<bool, AllocError> {
-    let run = heard(alloc, source, input.as_bytes())?;
+    let run = interpreted(alloc, source, input.as_bytes())?;
     Ok(run.noted.is_empty() && run.fault.is_none())
 }
 

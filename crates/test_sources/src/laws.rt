@@ -24,7 +24,7 @@ const STEPS: [Step<'static>; 5] = [
     Step::New("a", None),
     Step::Close(7),
     Step::New("b", Some(1)),
-    Step::Told(Level::Warn, "x", Some(2)),
+    Step::Event(Level::Warn, "x", Some(2)),
     Step::Close(2),
 ];
 

@@ -1,9 +1,9 @@
 //! When a run shows its output, and what it notes.
 
-use super::seen::{ByLine, START, heard};
+use super::seen::{ByLine, START, interpreted};
 use std::test::*;
 use ttree_go_test::GoTest;
-use ttree_source::Lack;
+use ttree_source::Problem;
 
 const TESTS: &str = concat!(
     "{\"Action\":\"run\",\"Package\":\"p\",\"Test\":\"A\"}\n",
@@ -27,10 +27,10 @@ const DRAWN: [&str; 6] = [
 #[test]
 fn skipped_lines_are_noted_by_their_numbers(rt: HostRuntime) -> Result<(), Fail> {
     let mut source = GoTest::new(rt.alloc(), 1, START)?;
-    let run = heard(rt.alloc(), &mut source, TESTS.as_bytes())?;
+    let run = interpreted(rt.alloc(), &mut source, TESTS.as_bytes())?;
     assert_eq!(rt;
         run.noted.as_slice(),
-        [(2, Lack::Action), (4, Lack::Package)].as_slice()
+        [(2, Problem::Action), (4, Problem::Package)].as_slice()
     );
     assert_eq!(rt; run.fault, None);
     Ok(())
@@ -43,7 +43,7 @@ fn what_is_drawn_is_shown_before_each_read(rt: HostRuntime) -> Result<(), Fail> 
     let reader = ByLine {
         rest: TESTS.as_bytes(),
     };
-    let run = heard(rt.alloc(), &mut source, reader)?;
+    let run = interpreted(rt.alloc(), &mut source, reader)?;
     let mut drawn = Vec::new(rt.alloc());
     let mut bytes: usize = 0;
     drawn.push(bytes)?;
@@ -58,7 +58,7 @@ fn what_is_drawn_is_shown_before_each_read(rt: HostRuntime) -> Result<(), Fail> 
 #[test]
 fn lines_that_the_buffer_holds_are_not_shown_one_by_one(rt: HostRuntime) -> Result<(), Fail> {
     let mut source = GoTest::new(rt.alloc(), 1, START)?;
-    let run = heard(rt.alloc(), &mut source, TESTS.as_bytes())?;
+    let run = interpreted(rt.alloc(), &mut source, TESTS.as_bytes())?;
     assert_eq!(rt; run.shown.len(), 2);
     Ok(())
 }

@@ -9,7 +9,7 @@ use tracing_tree::format::Wrap;
 use tracing_tree::layered::Layered;
 use tracing_tree::lines::LineFault;
 use tracing_tree::time::Moment;
-use ttree_source::{Lack, Notes, Source, draw_source};
+use ttree_source::{Notes, Problem, Source, draw_source};
 
 pub const START: Moment = Moment {
     mono: 0,
@@ -19,7 +19,7 @@ pub const START: Moment = Moment {
 // Stores what is skipped, and continues.
 #[derive(Drop)]
 pub struct Skipped {
-    pub lines: Vec<(u64, Lack)>,
+    pub lines: Vec<(u64, Problem)>,
 }
 
 impl Skipped {
@@ -31,8 +31,8 @@ impl Skipped {
 }
 
 impl Notes for Skipped {
-    fn note(&mut self, number: u64, lack: Lack, _line: &[u8]) -> bool {
-        self.lines.push((number, lack)).is_ok()
+    fn note(&mut self, number: u64, problem: Problem, _line: &[u8]) -> bool {
+        self.lines.push((number, problem)).is_ok()
     }
 }
 
@@ -88,13 +88,13 @@ pub fn drawn(alloc: Global) -> Result<Box<Drawn>, AllocError> {
 // before each flush.
 #[derive(Drop)]
 pub struct Outcome {
-    pub noted: Vec<(u64, Lack)>,
+    pub noted: Vec<(u64, Problem)>,
     pub fault: Option<LineFault>,
     pub shown: Vec<usize>,
 }
 
 // Runs a source over a reader with room for 64 KiB.
-pub fn heard<S: Source, R: Read + Drop>(
+pub fn interpreted<S: Source, R: Read + Drop>(
     alloc: Global,
     source: &mut S,
     reader: R,

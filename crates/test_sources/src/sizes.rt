@@ -1,7 +1,7 @@
-//! Runs in which one quantity has each size up to 20, and those next to each power of two up to
+//! Runs that give one quantity each size up to 20, and those next to each power of two up to
 //! 1,024.
 
-use super::seen::{START, Skipped, drawn, heard};
+use super::seen::{START, Skipped, drawn, interpreted};
 use std::alloc::{AllocError, Global};
 use std::test::*;
 use ttree_chrome::{Leaves, run_trace};
@@ -132,7 +132,7 @@ fn push_trace(input: &mut String, size: u32, nested: bool) -> Result<(), AllocEr
 }
 
 fn is_whole<S: Source>(alloc: Global, source: &mut S, input: &str) -> Result<bool, AllocError> {
-    let run = heard(alloc, source, input.as_bytes())?;
+    let run = interpreted(alloc, source, input.as_bytes())?;
     Ok(run.noted.is_empty() && run.fault.is_none())
 }
 

@@ -1,7 +1,7 @@
 //! Which tests a source counts, and whether it says that they failed, after a run to the input's
 //! end.
 
-use super::seen::{START, heard};
+use super::seen::{START, interpreted};
 use std::alloc::{AllocError, Global};
 use std::test::*;
 use tracing_tree::style::Level;
@@ -72,7 +72,7 @@ fn tests_fail_under_level_and_failed_as_without(rt: HostRuntime) -> Result<(), F
 
 fn ran(alloc: Global, input: &str) -> Result<Box<GoTest>, AllocError> {
     let mut source = Box::new(alloc, GoTest::new(alloc, 1, START)?)?;
-    let _run = heard(alloc, &mut *source, input.as_bytes())?;
+    let _run = interpreted(alloc, &mut *source, input.as_bytes())?;
     Ok(source)
 }
 
@@ -90,12 +90,12 @@ fn counts_of(source: &GoTest) -> [u64; 6] {
 
 fn fail_above_all(alloc: Global, input: &str) -> Result<bool, AllocError> {
     let mut source = AtLeast::new(GoTest::new(alloc, 1, START)?, Level::Error);
-    let _run = heard(alloc, &mut source, input.as_bytes())?;
+    let _run = interpreted(alloc, &mut source, input.as_bytes())?;
     Ok(source.into_source().has_failed())
 }
 
 fn fail_of_failed(alloc: Global, input: &str) -> Result<bool, AllocError> {
     let mut source = Failed::new(alloc, 1, START)?;
-    let _run = heard(alloc, &mut source, input.as_bytes())?;
+    let _run = interpreted(alloc, &mut source, input.as_bytes())?;
     Ok(source.has_failed())
 }

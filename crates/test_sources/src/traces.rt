@@ -4,7 +4,7 @@ use super::seen::{START, Skipped, drawn};
 use std::alloc::{AllocError, Global};
 use std::test::*;
 use ttree_chrome::{Leaves, run_trace};
-use ttree_source::{Cut, Lack};
+use ttree_source::{Cut, Problem};
 
 const WHOLE: &str = "[{\"ph\":\"i\",\"ts\":1,\"name\":\"x\"},{},{\"ph\":\"B\"}]";
 
@@ -16,15 +16,15 @@ fn skipped_elements_are_noted_by_their_numbers(rt: HostRuntime) -> Result<(), Fa
     let whole = noted(rt.alloc(), WHOLE)?;
     assert_eq!(rt;
         whole.lines.as_slice(),
-        [(2, Lack::Phase), (3, Lack::Start)].as_slice()
+        [(2, Problem::Phase), (3, Problem::Start)].as_slice()
     );
     let cut = noted(rt.alloc(), CUT)?;
     assert_eq!(rt;
         cut.lines.as_slice(),
-        [(2, Lack::Phase), (4, Lack::Object)].as_slice()
+        [(2, Problem::Phase), (4, Problem::Object)].as_slice()
     );
     let none = noted(rt.alloc(), "{}")?;
-    assert_eq!(rt; none.lines.as_slice(), [(1, Lack::Trace)].as_slice());
+    assert_eq!(rt; none.lines.as_slice(), [(1, Problem::Trace)].as_slice());
     Ok(())
 }
 

@@ -81,7 +81,7 @@ pub fn recorded(alloc: Global, name: &str, value: &str) -> Result<Fields, AllocE
 }
 
 /// Records an event with a message in the current span.
-pub fn told(
+pub fn event_call(
     alloc: Global,
     level: Level,
     message: &str,
@@ -99,7 +99,7 @@ pub fn told(
 }
 
 /// Records an INFO event with a message in this parent.
-pub fn told_in(
+pub fn event_call_in(
     alloc: Global,
     message: &str,
     parent: Parent,
@@ -141,10 +141,10 @@ pub enum Step<'a> {
     NewIn(&'a str, Parent, Option<u64>),
 
     /// An event with a message, in the current span.
-    Told(Level, &'a str, Option<u64>),
+    Event(Level, &'a str, Option<u64>),
 
     /// An INFO event with a message, in this parent, with this current span.
-    ToldIn(&'a str, Parent, Option<u64>),
+    EventIn(&'a str, Parent, Option<u64>),
 
     /// A record of a value of the field `k`.
     Record(u64, &'a str),
@@ -162,8 +162,10 @@ impl Step<'_> {
         Ok(match self {
             Step::New(name, current) => made(alloc, name, current)?,
             Step::NewIn(name, parent, current) => made_in(alloc, name, parent, current)?,
-            Step::Told(level, message, current) => told(alloc, level, message, current)?,
-            Step::ToldIn(message, parent, current) => told_in(alloc, message, parent, current)?,
+            Step::Event(level, message, current) => event_call(alloc, level, message, current)?,
+            Step::EventIn(message, parent, current) => event_call_in(
+                alloc, message, parent, current,
+            )?,
             Step::Record(id, value) => {
                 let fields = recorded(alloc, "k", value)?;
                 Call::Record(Id(id), Record { fields })

@@ -12,7 +12,7 @@ use std::sync::ledger::{Blank, Ledger};
 use std::test::*;
 use std::thread;
 use std::thread::Threads;
-use test_support::{at, closed, recorded, told};
+use test_support::{at, closed, event_call, recorded};
 use tracing_tree_core::format::Config;
 use tracing_tree_core::registry::{Event, Parent};
 use tracing_tree_core::style::Level;
@@ -107,7 +107,7 @@ fn submits<L: Ledger, R: Wait>(
     layer: &SharedLayer<Watch<'_>, L>,
     mut pass: Pass<L>,
 ) -> bool {
-    match told(alloc, Level::Info, "x", None) {
+    match event_call(alloc, Level::Info, "x", None) {
         Ok(call) => make(rt, alloc, layer, &mut pass, call).is_some(),
         Err(_) => false,
     }

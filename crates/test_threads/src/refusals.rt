@@ -9,7 +9,7 @@ use std::marker::Brand;
 use std::sync::Wait;
 use std::sync::ledger::{Blank, Ledger};
 use std::test::*;
-use test_support::{closed, made, told};
+use test_support::{closed, event_call, made};
 use tracing_tree_core::format::Refusal;
 use tracing_tree_core::style::Level;
 use tracing_tree_core::time::{FormatTime, Moment, TimeFault};
@@ -49,7 +49,7 @@ impl FormatTime for StopAt {
 
 // Returns an event outside every span, at this moment.
 fn event_at(alloc: Global, mono: u64) -> Result<Call, AllocError> {
-    let mut call = told(alloc, Level::Info, "x", None)?;
+    let mut call = event_call(alloc, Level::Info, "x", None)?;
     if let Call::Event(_, context) = &mut call {
         context.moment.mono = mono;
     }
@@ -151,7 +151,7 @@ fn a_draft_that_memory_was_refused_to_is_applied_again(rt: HostRuntime) -> Resul
     let alloc = rt.alloc();
     let mut book = wide_book(alloc)?;
     assert!(rt; is_applied(alloc, &mut book, made(alloc, "a", None)?)?);
-    let event = told(alloc, Level::Info, "x", Some(1))?;
+    let event = event_call(alloc, Level::Info, "x", Some(1))?;
     let refused = refused(alloc, &mut book, event)?.expect(&rt, "a refusal");
     assert_eq!(rt; refused.cause, Refusal::Memory);
     assert_eq!(rt; book.history().len(), 1);
@@ -183,7 +183,7 @@ fn submitted<L: Ledger, R: Wait>(
 // Returns a draft of a root or of an event, or `None` if memory runs out.
 fn grown<L: Ledger>(alloc: Global, layer: &SharedLayer<(), L>, is_event: bool) -> Option<Draft> {
     let call = if is_event {
-        told(alloc, Level::Info, "x", Some(1))
+        event_call(alloc, Level::Info, "x", Some(1))
     } else {
         made(alloc, "a", None)
     };

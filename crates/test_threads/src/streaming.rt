@@ -7,7 +7,7 @@ use std::io::Write;
 use std::sync::Wait;
 use std::test::*;
 use std::{io, thread};
-use test_support::{closed, made, told};
+use test_support::{closed, event_call, made};
 use tracing_tree_core::format::{Refusal, Tape, Wrap};
 use tracing_tree_core::style::Level;
 use tracing_tree_layer::{HierarchicalLayer, Layered};
@@ -17,7 +17,7 @@ use tracing_tree_shared::StreamingLayer;
 fn events<R: Wait>(rt: &R, alloc: Global, layer: &StreamingLayer<Tape, ()>, count: u64) -> bool {
     let mut least = 0;
     for _ in 0..count {
-        let Ok(call) = told(alloc, Level::Info, "x", None) else {
+        let Ok(call) = event_call(alloc, Level::Info, "x", None) else {
             return false;
         };
         let Some(number) = stream(rt, alloc, layer, call) else {

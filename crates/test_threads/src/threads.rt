@@ -12,7 +12,7 @@ use std::sync::ledger::{Blank, Ledger};
 use std::test::*;
 use std::thread::Threads;
 use std::{str, thread};
-use test_support::{closed, made, told};
+use test_support::{closed, event_call, made};
 use tracing_tree::rows::{Row, read_paths, read_rows};
 use tracing_tree_core::format::{Id, Refusal, Tape};
 use tracing_tree_core::style::Level;
@@ -29,7 +29,7 @@ fn events<L: Ledger, R: Wait>(
     count: u64,
 ) {
     for _ in 0..count {
-        let Ok(call) = told(alloc, Level::Info, "x", None) else {
+        let Ok(call) = event_call(alloc, Level::Info, "x", None) else {
             return;
         };
         make(rt, alloc, layer, pass, call);
@@ -51,7 +51,7 @@ fn tree<L: Ledger, R: Wait>(
         return;
     };
     for _ in 0..50 {
-        let Ok(call) = told(alloc, Level::Info, name, Some(root)) else {
+        let Ok(call) = event_call(alloc, Level::Info, name, Some(root)) else {
             return;
         };
         make(rt, alloc, layer, pass, call);

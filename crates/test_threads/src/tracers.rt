@@ -38,7 +38,7 @@ const NARROW: usize = 2;
 const WIDE: usize = 1 << 62;
 
 // With lines and this amount; each row begins with the thread that made its call.
-fn telling(alloc: Global, amount: usize) -> Layered<Tape, ()>
+fn emitting(alloc: Global, amount: usize) -> Layered<Tape, ()>
     ensures spans { result.forest.spans ≡ [] }
     ensures last { result.layer.last ≡ None }
     ensures sound { result.layer.failed ≡ false }
@@ -88,7 +88,7 @@ fn serve_over<C: Calls>(alloc: Global, thread: u64, calls: C) -> (Result<(), Tra
 
 // Returns what a thread draws that has the layer to itself.
 fn alone(alloc: Global, thread: u64) -> Result<Layered<Tape, ()>, TraceFault> {
-    let (served, layered) = serve_over(alloc, thread, telling(alloc, NARROW));
+    let (served, layered) = serve_over(alloc, thread, emitting(alloc, NARROW));
     served?;
     Ok(layered)
 }
@@ -147,7 +147,7 @@ fn passes_with<L: Ledger + Send + Sync, R: Threads + Wait + Sync>(
     let (layer, passes) = SharedLayer::<(), L>::open(
         alloc,
         blank,
-        telling(alloc, NARROW),
+        emitting(alloc, NARROW),
         THREADS,
     )?;
     let mut jobs = Vec::new(alloc);
@@ -193,7 +193,7 @@ fn serve_streaming<R: Wait>(
 #[test]
 fn each_thread_has_a_tracer_over_a_streaming_layer(rt: HostRuntime) -> Result<(), Fail> {
     let alloc = rt.alloc();
-    let layer = StreamingLayer::new(telling(alloc, NARROW));
+    let layer = StreamingLayer::new(emitting(alloc, NARROW));
     let all = thread::map_indices(
         &rt,
         alloc,
@@ -227,7 +227,7 @@ const REFUSED: Opened = (Err(TraceFault::Refused(Refusal::Memory)), 1);
 #[test]
 fn a_refusal_of_a_streaming_layer_leaves_the_open_spans(rt: HostRuntime) -> Result<(), Fail> {
     let alloc = rt.alloc();
-    let layer = StreamingLayer::new(telling(alloc, WIDE));
+    let layer = StreamingLayer::new(emitting(alloc, WIDE));
     let mut tracer = tracer_of(alloc, 1, StreamingCalls::new(&rt, alloc, &layer));
     assert_eq!(rt; open_two(&mut tracer), Ok(REFUSED));
     drop(tracer);
@@ -245,7 +245,7 @@ fn refused_with<L: Ledger, R: Wait>(
     requires parts { blank.parts ≡ L.parts }
     requires two { L.parts ≡ 2 }
 {
-    let (layer, mut passes) = SharedLayer::<(), L>::open(alloc, blank, telling(alloc, WIDE), 1)?;
+    let (layer, mut passes) = SharedLayer::<(), L>::open(alloc, blank, emitting(alloc, WIDE), 1)?;
     let Some(pass) = passes.pop() else {
         return Ok(None);
     };

@@ -18,7 +18,7 @@ struct Asked<'a> {
 impl Now for Asked<'_> {
     ghost use Rattle.std.specs.Prelude.{⊤};
 
-    ghost tells = { λ clock told. ⊤ };
+    ghost reads = { λ clock moment. ⊤ };
 
     fn now(&self) -> Option<Moment> {
         self.count.set(self.count.get().wrapping_add(1));
@@ -31,7 +31,7 @@ impl Now for Asked<'_> {
 
 const ONCE_EACH: [Line<'static>; 3] = [
     (Step::Open("a"), Ok(Given::Span(1)), 1),
-    (Step::Tell(Level::Info, "x"), Ok(Given::Done), 1),
+    (Step::Emit(Level::Info, "x"), Ok(Given::Done), 1),
     (Step::Close, Ok(Given::Closed(true)), 0),
 ];
 

@@ -1,7 +1,7 @@
 //! What a tracer draws.
 
 use crate::lined::lined;
-use crate::steps::{Given, Line, Step, first_unlike, open, record, tell, text};
+use crate::steps::{Given, Line, Step, emit, first_unlike, open, record, text};
 use jiff::Timestamp;
 use std::alloc::{AllocError, Global};
 use std::test::*;
@@ -50,11 +50,11 @@ fn draws_a_connection(rt: HostRuntime) -> Result<(), Fail> {
 }
 
 const LEVELS: [Line<'static>; 6] = [
-    (Step::Tell(Level::Trace, "a"), Ok(Given::Done), 0),
-    (Step::Tell(Level::Debug, "b"), Ok(Given::Done), 0),
-    (Step::Tell(Level::Info, "c"), Ok(Given::Done), 0),
-    (Step::Tell(Level::Warn, "d"), Ok(Given::Done), 0),
-    (Step::Tell(Level::Error, "e"), Ok(Given::Done), 0),
+    (Step::Emit(Level::Trace, "a"), Ok(Given::Done), 0),
+    (Step::Emit(Level::Debug, "b"), Ok(Given::Done), 0),
+    (Step::Emit(Level::Info, "c"), Ok(Given::Done), 0),
+    (Step::Emit(Level::Warn, "d"), Ok(Given::Done), 0),
+    (Step::Emit(Level::Error, "e"), Ok(Given::Done), 0),
     (Step::Event(Level::Info, "f"), Ok(Given::Done), 0),
 ];
 
@@ -99,7 +99,7 @@ fn deferred(alloc: Global) -> Tracer<Layered<Tape, ()>, Moment> {
 fn record_more(tracer: &mut Tracer<Layered<Tape, ()>, Moment>) -> Result<(), TraceFault> {
     open(tracer, "a", &[("k", Whole(1))])?;
     record(tracer, &[("l", Whole(2))])?;
-    tell(tracer, Level::Info, "x", &[])
+    emit(tracer, Level::Info, "x", &[])
 }
 
 #[test]
@@ -117,7 +117,7 @@ const THIRD_SECOND: Moment = Moment {
 };
 
 // Returns a layer that shows threads, targets and the time.
-fn telling(alloc: Global) -> Layered<Tape, Uptime> {
+fn emitting(alloc: Global) -> Layered<Tape, Uptime> {
     let layer = HierarchicalLayer::new(alloc, 2, false, Tape::new(alloc))
         .with_indent_lines(true)
         .with_thread_ids(true)
@@ -132,20 +132,20 @@ fn in_thread(alloc: Global) -> Result<Tracer<Layered<Tape, Uptime>, Moment>, All
     let target = Text::from_str(alloc, "web")?;
     let name = Text::from_str(alloc, "main")?;
     Ok(
-        Tracer::new(alloc, telling(alloc), THIRD_SECOND)
+        Tracer::new(alloc, emitting(alloc), THIRD_SECOND)
             .with_target(target)
             .with_thread(7, Some(name)),
     )
 }
 
-fn tell_timed(tracer: &mut Tracer<Layered<Tape, Uptime>, Moment>) -> Result<(), TraceFault> {
+fn emit_timed(tracer: &mut Tracer<Layered<Tape, Uptime>, Moment>) -> Result<(), TraceFault> {
     tracer.info("x", &[])
 }
 
 #[test]
 fn shows_thread_target_and_moment(rt: HostRuntime) -> Result<(), Fail> {
     let mut tracer = in_thread(rt.alloc())?;
-    assert_eq!(rt; tell_timed(&mut tracer), Ok(()));
+    assert_eq!(rt; emit_timed(&mut tracer), Ok(()));
     let text = "7:main   3.000000s INFO web x\n";
     assert_eq!(rt; tracer.layered().writer().bytes(), text.as_bytes());
     Ok(())
@@ -158,9 +158,9 @@ fn moments(clock: &impl Now) -> Option<(Moment, Moment)> {
 }
 
 // Records an event at a moment of this clock.
-fn tell_by(alloc: Global, clock: impl Now) -> Result<(), TraceFault> {
+fn emit_by(alloc: Global, clock: impl Now) -> Result<(), TraceFault> {
     let mut tracer = Tracer::new(alloc, lined(alloc), clock);
-    tell(&mut tracer, Level::Info, "x", &[])
+    emit(&mut tracer, Level::Info, "x", &[])
 }
 
 #[test]
@@ -169,6 +169,6 @@ fn the_clock_of_the_machine_goes_forward(rt: HostRuntime) -> Result<(), Fail> {
     let (first, second) = moments(&clock).ok_or("no moment")?;
     assert!(rt; first.mono <= second.mono);
     assert!(rt; Timestamp::UNIX_EPOCH < second.wall);
-    assert_eq!(rt; tell_by(rt.alloc(), clock), Ok(()));
+    assert_eq!(rt; emit_by(rt.alloc(), clock), Ok(()));
     Ok(())
 }

@@ -1,7 +1,7 @@
 //! The faults of a tracer.
 
 use crate::lined::{lined, lined_over};
-use crate::steps::{Given, Line, Step, close, depth, first_unlike, open, tell, text};
+use crate::steps::{Given, Line, Step, close, depth, emit, first_unlike, open, text};
 use jiff::Timestamp;
 use std::alloc::Global;
 use std::io;
@@ -42,7 +42,7 @@ struct Broken;
 impl Now for Broken {
     ghost use Rattle.std.specs.Prelude.{◌≡◌, None};
 
-    ghost tells = { λ clock told. told ≡ None };
+    ghost reads = { λ clock moment. moment ≡ None };
 
     fn now(&self) -> Option<Moment> {
         None
@@ -51,7 +51,7 @@ impl Now for Broken {
 
 const TIMELESS: [Line<'static>; 2] = [
     (Step::Open("a"), Err(TraceFault::NoMoment), 0),
-    (Step::Tell(Level::Info, "x"), Err(TraceFault::NoMoment), 0),
+    (Step::Emit(Level::Info, "x"), Err(TraceFault::NoMoment), 0),
 ];
 
 #[test]
@@ -104,31 +104,31 @@ fn a_fault_of_the_writer_leaves_the_open_spans(rt: HostRuntime) -> Result<(), Fa
 
 // What a service has against going on.
 #[derive(Clone, Copy, Debug, PartialEq, Eq)]
-enum Trouble {
+enum Failure {
     Trace,
     Query,
 }
 
-impl From<TraceFault> for Trouble {
-    fn from(_fault: TraceFault) -> Trouble {
-        Trouble::Trace
+impl From<TraceFault> for Failure {
+    fn from(_fault: TraceFault) -> Failure {
+        Failure::Trace
     }
 }
 
-fn fail(tracer: &mut Tracer<Layered<Tape, ()>, Moment>) -> Result<u8, Trouble> {
+fn fail(tracer: &mut Tracer<Layered<Tape, ()>, Moment>) -> Result<u8, Failure> {
     open(tracer, "b", &[])?;
-    tell(tracer, Level::Info, "x", &[])?;
-    Err(Trouble::Query)
+    emit(tracer, Level::Info, "x", &[])?;
+    Err(Failure::Query)
 }
 
-fn fails(tracer: &mut Tracer<Layered<Tape, ()>, Moment>) -> Result<u8, Trouble> {
+fn fails(tracer: &mut Tracer<Layered<Tape, ()>, Moment>) -> Result<u8, Failure> {
     within(tracer, "a", &[], |tracer| fail(tracer))
 }
 
 #[test]
 fn a_span_closes_where_its_body_fails(rt: HostRuntime) -> Result<(), Fail> {
     let mut tracer = tracer(rt.alloc());
-    assert_eq!(rt; fails(&mut tracer), Err(Trouble::Query));
+    assert_eq!(rt; fails(&mut tracer), Err(Failure::Query));
     assert_eq!(rt; depth(&tracer), 0);
     let wanted = "┐a \n└─┐b \n  ├─ INFO x\n┌─┘\n┘\n";
     assert_eq!(rt; text(&tracer), wanted.as_bytes());

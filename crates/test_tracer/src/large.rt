@@ -1,6 +1,6 @@
 //! A tracer with many open spans, and with long strings.
 
-use crate::steps::{depth, open, tell};
+use crate::steps::{depth, emit, open};
 use jiff::Timestamp;
 use std::alloc::{AllocError, Global};
 use std::test::*;
@@ -34,13 +34,13 @@ fn close_all(tracer: &mut Tracer<Layered<Tape, ()>, Moment>) -> Result<(), Trace
 }
 
 // Records an event whose message and only field are this long.
-fn tell_long(
+fn emit_long(
     tracer: &mut Tracer<Layered<Tape, ()>, Moment>,
     alloc: Global,
     length: usize,
 ) -> Result<Result<(), TraceFault>, AllocError> {
     let long = "x".repeat(alloc, length)?;
-    Ok(tell(
+    Ok(emit(
         tracer,
         Level::Info,
         long.as_str(),
@@ -61,7 +61,7 @@ fn many_spans_are_open(rt: HostRuntime) -> Result<(), Fail> {
 #[test]
 fn a_message_is_long(rt: HostRuntime) -> Result<(), Fail> {
     let mut tracer = flat(rt.alloc());
-    assert_eq!(rt; tell_long(&mut tracer, rt.alloc(), 1_000_000)?, Ok(()));
+    assert_eq!(rt; emit_long(&mut tracer, rt.alloc(), 1_000_000)?, Ok(()));
     Ok(())
 }
 
@@ -75,10 +75,10 @@ const SIZES: [u32; 36] = [
 fn is_made(alloc: Global, size: u32) -> Result<bool, AllocError> {
     let mut tracer = flat(alloc);
     let opened = open_all(&mut tracer, size);
-    let told = tell_long(&mut tracer, alloc, size as usize)?;
+    let emitted = emit_long(&mut tracer, alloc, size as usize)?;
     let depth = depth(&tracer);
     let closed = close_all(&mut tracer);
-    Ok(opened.is_ok() && told.is_ok() && closed.is_ok() && depth == size as usize)
+    Ok(opened.is_ok() && emitted.is_ok() && closed.is_ok() && depth == size as usize)
 }
 
 #[test]

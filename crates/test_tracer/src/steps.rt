@@ -12,7 +12,7 @@ pub enum Step<'a> {
     Open(&'a str),
 
     /// An event, by the method that is named after its level.
-    Tell(Level, &'a str),
+    Emit(Level, &'a str),
 
     /// An event, by the method for every level.
     Event(Level, &'a str),
@@ -58,7 +58,7 @@ pub fn record<C: Calls, N: Now>(
 }
 
 /// Records an event by the method that is named after its level.
-pub fn tell<C: Calls, N: Now>(
+pub fn emit<C: Calls, N: Now>(
     tracer: &mut Tracer<C, N>,
     level: Level,
     message: &str,
@@ -94,7 +94,7 @@ pub fn text<N: Now>(tracer: &Tracer<Layered<Tape, ()>, N>) -> &[u8] {
 fn take<C: Calls, N: Now>(tracer: &mut Tracer<C, N>, step: Step<'_>) -> Answer {
     match step {
         Step::Open(name) => open(tracer, name, &[]).map(|id| Given::Span(id.0)),
-        Step::Tell(level, message) => tell(tracer, level, message, &[]).map(|()| Given::Done),
+        Step::Emit(level, message) => emit(tracer, level, message, &[]).map(|()| Given::Done),
         Step::Event(level, message) => event(tracer, level, message).map(|()| Given::Done),
         Step::Record => record(tracer, &[]).map(|()| Given::Done),
         Step::Close => close(tracer).map(Given::Closed),

@@ -1,7 +1,7 @@
 //! Values of fields, as drawn.
 
 use crate::lined::lined;
-use crate::steps::{tell, text as drawn};
+use crate::steps::{emit, text as drawn};
 use jiff::Timestamp;
 use std::alloc::Global;
 use std::test::*;
@@ -17,8 +17,8 @@ fn is_drawn(alloc: Global, value: Value<'_>, text: &str) -> bool {
         wall: Timestamp::UNIX_EPOCH,
     };
     let mut tracer = Tracer::new(alloc, lined(alloc), moment);
-    let told = tell(&mut tracer, Level::Info, "x", &[("k", value)]);
-    told.is_ok() && drawn(&tracer) == text.as_bytes()
+    let emitted = emit(&mut tracer, Level::Info, "x", &[("k", value)]);
+    emitted.is_ok() && drawn(&tracer) == text.as_bytes()
 }
 
 const TEXTS: [(Value<'static>, &str); 2] = [

@@ -24,6 +24,6 @@ pub mod tracer;
 pub use tracing_tree_core::{field, format, registry, style, text, time};
 pub use tracing_tree_layer::{
     Call, Calls, DifferenceIter, HierarchicalLayer, Layered, Reply, call, calls, difference, layer,
-    layered, told,
+    layered, parts,
 };
 pub use tracing_tree_lines::{LineCause, LineFault, LinesRun, lines, run_lines, status};

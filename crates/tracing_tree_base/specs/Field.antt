@@ -2,8 +2,8 @@
 use Rattle.std.specs.Prelude.{ℕ, ℤ, ◌==◌, ◌||◌, nat_lt, Bool, true, false, if◌then◌else◌, List, [], ◌∷◌, ◌++◌, flat_map, codes}
 use Rattle.std.specs.Fmt.{digits, signed_decimal}
 use Rattle.tracing_tree_base.specs.declared.field.Field.{Field}
-use Rattle.tracing_tree_base.specs.declared.field.Kept.{Kept}
-use Rattle.tracing_tree_base.specs.declared.field.Kept.TheVariants.{One, Many}
+use Rattle.tracing_tree_base.specs.declared.field.Storage.{Storage}
+use Rattle.tracing_tree_base.specs.declared.field.Storage.TheVariants.{One, Many}
 
 -- an ASCII character as Rust's debug form of a string shows it
 abbrev pub escaped : ℕ → List ℕ
@@ -38,6 +38,6 @@ abbrev pub text_field : List ℕ → List ℕ → Field
 text_field name value = rendered_field name (quoted value)
 
 -- which fields a list has, wherever they are stored
-abbrev pub kept_fields : Kept → List Field
+abbrev pub kept_fields : Storage → List Field
 kept_fields (One field) = field ∷ []
 kept_fields (Many list) = list.items

@@ -126,12 +126,12 @@ const ROOM: usize = 4;
 #[derive(Debug, Drop)]
 pub struct Fields {
     alloc: Global,
-    kept: Kept,
+    kept: Storage,
 }
 
 // How fields are stored.
 #[derive(Debug, Drop)]
-enum Kept {
+enum Storage {
     One(Field),
     Many(Vec<Field>),
 }
@@ -153,7 +153,7 @@ impl Fields {
     {
         Fields {
             alloc,
-            kept: Kept::Many(Vec::new(alloc)),
+            kept: Storage::Many(Vec::new(alloc)),
         }
     }
 
@@ -163,7 +163,7 @@ impl Fields {
     {
         Fields {
             alloc,
-            kept: Kept::One(field),
+            kept: Storage::One(field),
         }
     }
 
@@ -172,8 +172,8 @@ impl Fields {
         ensures { result.now ≡ self.now }
     {
         match &self.kept {
-            Kept::One(field) => slice::from_ref(field),
-            Kept::Many(items) => items.as_slice(),
+            Storage::One(field) => slice::from_ref(field),
+            Storage::Many(items) => items.as_slice(),
         }
     }
 
@@ -192,7 +192,7 @@ impl Fields {
         }
         let mut items = self.take_list()?;
         let appended = fields.move_to(&mut items);
-        self.kept = Kept::Many(items);
+        self.kept = Storage::Many(items);
         appended
     }
 
@@ -201,11 +201,14 @@ impl Fields {
         ensures ok { IfOk result (λ list. list.items ≡ self.old) }
         ensures err { OnErr result (self.new ≡ self.old) }
     {
-        if let Kept::Many(items) = &mut self.kept {
+        if let Storage::Many(items) = &mut self.kept {
             return Ok(mem::replace(items, Vec::new(self.alloc)));
         }
         let mut list = Vec::with_capacity(self.alloc, ROOM)?;
-        if let Kept::One(field) = mem::replace(&mut self.kept, Kept::Many(Vec::new(self.alloc))) {
+        if let Storage::One(field) = mem::replace(
+            &mut self.kept,
+            Storage::Many(Vec::new(self.alloc)),
+        ) {
             list.push_reserved(field);
         }
         Ok(list)
@@ -218,8 +221,8 @@ impl Fields {
     {
         let Fields { alloc: _, kept } = self;
         match kept {
-            Kept::One(field) => Ok(list.push(field)?),
-            Kept::Many(mut items) => list.append(&mut items),
+            Storage::One(field) => Ok(list.push(field)?),
+            Storage::Many(mut items) => list.append(&mut items),
         }
     }
 }
@@ -234,8 +237,8 @@ impl From<Vec<Field>> for Fields {
         let alloc = *items.allocator();
         let lone = if items.len() == 1 { items.pop() } else { None };
         let kept = match lone {
-            Some(field) => Kept::One(field),
-            None => Kept::Many(items),
+            Some(field) => Storage::One(field),
+            None => Storage::Many(items),
         };
         Fields { alloc, kept }
     }
@@ -246,8 +249,8 @@ impl Clone for Fields {
 
     fn clone(&self) -> Result<Fields, AllocError> {
         let kept = match &self.kept {
-            Kept::One(field) => Kept::One(field.clone()?),
-            Kept::Many(items) => Kept::Many(items.clone()?),
+            Storage::One(field) => Storage::One(field.clone()?),
+            Storage::Many(items) => Storage::Many(items.clone()?),
         };
         Ok(Fields {
             alloc: self.alloc,

@@ -44,8 +44,8 @@ impl Style {
 }
 
 /// Returns the text in a style, between the escape sequences that start and end it. If `ansi` is
-/// off, or the style is `Plain`, the text is unchanged. (docs/FORMATS.md, "Styles", defines the
-/// styles.)
+/// off, or the style is `Plain`, the text is unchanged. (docs/reference/formats.md, "Styles",
+/// defines the styles.)
 ///
 /// # Errors
 ///

@@ -15,12 +15,12 @@ const SHORT: usize = 16;
 /// the two forms, so equal strings are equal values.
 #[derive(Debug, Drop)]
 pub struct Text {
-    kept: Kept,
+    kept: Storage,
 }
 
 // How a string is stored.
 #[derive(Debug, Drop)]
-enum Kept {
+enum Storage {
     Short(ArrayString<SHORT>),
     Long(String),
 }
@@ -45,8 +45,8 @@ impl Text {
         ensures short { length text.now ≤ 16 → IsOk result }
     {
         let kept = match ArrayString::from(text) {
-            Ok(short) => Kept::Short(short),
-            Err(_) => Kept::Long(String::from_str(alloc, text)?),
+            Ok(short) => Storage::Short(short),
+            Err(_) => Storage::Long(String::from_str(alloc, text)?),
         };
         Ok(Text { kept })
     }
@@ -56,8 +56,8 @@ impl Text {
         ensures { result.now ≡ self.now }
     {
         match &self.kept {
-            Kept::Short(text) => text.as_str(),
-            Kept::Long(text) => text.as_str(),
+            Storage::Short(text) => text.as_str(),
+            Storage::Long(text) => text.as_str(),
         }
     }
 }
@@ -70,8 +70,8 @@ impl From<String> for Text {
 
     fn from(text: String) -> Text {
         let kept = match ArrayString::from(text.as_str()) {
-            Ok(short) => Kept::Short(short),
-            Err(_) => Kept::Long(text),
+            Ok(short) => Storage::Short(short),
+            Err(_) => Storage::Long(text),
         };
         Text { kept }
     }
@@ -82,8 +82,8 @@ impl Clone for Text {
 
     fn clone(&self) -> Result<Text, AllocError> {
         let kept = match &self.kept {
-            Kept::Short(text) => Kept::Short(*text),
-            Kept::Long(text) => Kept::Long(text.clone()?),
+            Storage::Short(text) => Storage::Short(*text),
+            Storage::Long(text) => Storage::Long(text.clone()?),
         };
         Ok(Text { kept })
     }

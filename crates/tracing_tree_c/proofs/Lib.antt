@@ -1,4 +1,5 @@
-pub mod Handles
-pub mod Makes
+pub mod Entries
 pub mod Fields
+pub mod Makes
 pub mod Raws
+pub mod Words

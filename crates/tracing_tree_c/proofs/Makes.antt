@@ -9,26 +9,35 @@ use Rattle.tracing_tree_layer.specs.declared.call.Reply.{Reply}
 use Rattle.tracing_tree_c.specs.Foreign.{IsUtf8Field, IsUtf8Fields, Reads}
 use Rattle.tracing_tree_c.specs.declared.foreign.FieldRef.{FieldRef}
 use Rattle.tracing_tree_c.specs.Owned.{Kept}
-use Rattle.tracing_tree_c.specs.Parts.{read_as}
-use Rattle.tracing_tree_c.specs.Trees.{Makes, Mends, Performs, is_lost}
+use Rattle.tracing_tree_c.specs.Trees.{IsCalled, Makes, MakesCall, Mends, Performs, is_lost}
+use Rattle.tracing_tree_c.specs.declared.drawing.Drawing.{Drawing}
 use Rattle.tracing_tree_c.specs.declared.foreign.Unreadable.{Unreadable}
 use Rattle.tracing_tree_c.specs.declared.foreign.Unreadable.TheVariants.{Unknown, NotUtf8, Starved}
-use Rattle.tracing_tree_c.specs.declared.tree.Outcome.{Outcome}
-use Rattle.tracing_tree_c.specs.declared.tree.Outcome.TheVariants.{Answered}
+use Rattle.tracing_tree_c.specs.declared.outcome.Outcome.{Outcome}
+use Rattle.tracing_tree_c.specs.declared.outcome.Outcome.TheVariants.{Answered}
 
-pub makes : (IsKnown IsText IsSmall : Type 0) (IsThis : Call → Type 0) (read : Result Call Unreadable)
-    (outcome : Outcome) (old new : Kept) →
-    Reads IsKnown IsText IsSmall IsThis read → Performs read outcome old new → Makes IsKnown IsText IsSmall IsThis outcome old new
-makes K T S I read outcome None new r (e, n) = subst (λ (o : Outcome). Makes K T S I o None new) (sym e) (refl, n)
-makes K T S I (Ok call) outcome (Some old) new (known, text, is) (answer, left, eo, en, called) =
-    subst (λ (o : Outcome). Makes K T S I o (Some old) new) (sym eo)
-    (subst (λ (n : Kept). Makes K T S I (Answered answer) (Some old) n) (sym en) (known, text, (call, is, called)))
-makes K T S I (Err Unknown) outcome (Some old) new unknown (eo, en) =
-    subst (λ (o : Outcome). Makes K T S I o (Some old) new) (sym eo) (unknown, en)
-makes K T S I (Err NotUtf8) outcome (Some old) new cannot (eo, en) =
-    subst (λ (o : Outcome). Makes K T S I o (Some old) new) (sym eo) (cannot, en)
-makes K T S I (Err Starved) outcome (Some old) new large (eo, en) =
-    subst (λ (o : Outcome). Makes K T S I o (Some old) new) (sym eo) (large, en)
+-- what was read does what was asked
+pub makes : {T : Type 0} (Does : T → Result Reply Refusal → Drawing → Drawing → Type 0) (IsKnown IsText IsSmall : Type 0) (IsThis : T → Type 0)
+    (Asked : Result Reply Refusal → Drawing → Drawing → Type 0) (read : Result T Unreadable) (outcome : Outcome) (old new : Kept) →
+    ((act : T) (answer : Result Reply Refusal) (before left : Drawing) → IsThis act → Does act answer before left → Asked answer before left) →
+    Reads IsKnown IsText IsSmall IsThis read → Performs Does read outcome old new → Makes IsKnown IsText IsSmall Asked outcome old new
+makes D K U S I A read outcome None new asked r (e, n) = subst (λ (o : Outcome). Makes K U S A o None new) (sym e) (refl, n)
+makes D K U S I A (Ok act) outcome (Some old) new asked (known, text, is) (answer, left, eo, en, done) =
+    subst (λ (o : Outcome). Makes K U S A o (Some old) new) (sym eo)
+    (subst (λ (n : Kept). Makes K U S A (Answered answer) (Some old) n) (sym en) (known, text, asked act answer old left is done))
+makes D K U S I A (Err Unknown) outcome (Some old) new asked unknown (eo, en) =
+    subst (λ (o : Outcome). Makes K U S A o (Some old) new) (sym eo) (unknown, en)
+makes D K U S I A (Err NotUtf8) outcome (Some old) new asked cannot (eo, en) =
+    subst (λ (o : Outcome). Makes K U S A o (Some old) new) (sym eo) (cannot, en)
+makes D K U S I A (Err Starved) outcome (Some old) new asked large (eo, en) =
+    subst (λ (o : Outcome). Makes K U S A o (Some old) new) (sym eo) (large, en)
+
+-- the parts of a call that were read make this call
+pub makes_call : {T : Type 0} (call : T → Call) (IsKnown IsText IsSmall : Type 0) (IsThis : Call → Type 0) (read : Result T Unreadable) (outcome : Outcome) (old new : Kept) →
+    Reads IsKnown IsText IsSmall (λ parts. IsThis (call parts)) read → Performs (λ parts. IsCalled (call parts)) read outcome old new →
+    Makes IsKnown IsText IsSmall (MakesCall IsThis) outcome old new
+makes_call call K U S I read outcome old new r p =
+    makes (λ parts. IsCalled (call parts)) K U S (λ parts. I (call parts)) (MakesCall I) read outcome old new (λ parts answer before left is called. (call parts, is, called)) r p
 
 -- only the writer's fault loses a string
 pub lost_is : (answer : Result Reply Refusal) → is_lost answer ≡ true → answer ≡ Err Writer
@@ -45,14 +54,6 @@ lost_is (Err Failed) e = absurd (true≢false (sym e))
 pub stays : (answer : Result Reply Refusal) (before left : Seen) → is_lost answer ≡ false →
     Mends (is_lost answer) answer before left answer left
 stays answer before left e = subst (λ (b : Bool). Mends b answer before left answer left) (sym e) (refl, refl)
-
--- what was read is read as a call
-pub reads_as : {T : Type 0} (call : T → Call) (K S U : Type 0) (I : Call → Type 0) (read : Result T Unreadable) →
-    Reads K S U (λ parts. I (call parts)) read → Reads K S U I (read_as call read)
-reads_as call K S U I (Ok parts) r = r
-reads_as call K S U I (Err Unknown) r = r
-reads_as call K S U I (Err NotUtf8) r = r
-reads_as call K S U I (Err Starved) r = r
 
 -- if all of the rest can be read, its first can
 pub head_of : (xs : List FieldRef) (i : ℕ) (d : FieldRef) → i < length xs → IsUtf8Fields (drop i xs) → IsUtf8Field (slice_index_or xs i d)

@@ -1,20 +1,20 @@
 -- The answers and effects of the functions that C calls.
-use Rattle.std.specs.Prelude.{◌<◌, ◌≤◌, ◌++◌, List, drop, length, ◌≡◌, ◌≢◌, ℕ, Bool, None, Some, Ok, Err}
+use Rattle.std.specs.Prelude.{◌<◌, ◌≤◌, ◌++◌, ◌⊎◌, List, [], drop, length, ◌≡◌, ◌≢◌, ℕ, Bool, None, Some, Result, Ok, Err}
 use Rattle.tracing_tree_base.specs.declared.context.Refusal.{Refusal}
 use Rattle.tracing_tree_base.specs.declared.context.Refusal.TheVariants.{NotHeld, TooWide, TooMany, Memory, Timer as TimerFault, Writer, Failed}
 use Rattle.tracing_tree_time.specs.Clock.{Timer}
-use Rattle.tracing_tree_layer.specs.declared.call.Call.{Call}
+use Rattle.tracing_tree_layer.specs.declared.call.Reply.{Reply}
 use Rattle.tracing_tree_layer.specs.declared.call.Reply.TheVariants.{Span, Closed}
 use Rattle.tracing_tree_c.specs.Owned.{Kept}
-use Rattle.tracing_tree_c.specs.Trees.{Makes, SetsTime, seen_tree}
+use Rattle.tracing_tree_c.specs.Trees.{Makes, current_id, seen_tree}
 use Rattle.tracing_tree_c.specs.Settings.{CanOpen, opened, timer_of}
 use Rattle.tracing_tree_c.specs.declared.foreign.Unreadable.TheVariants as Fault
-use Rattle.tracing_tree_c.specs.declared.foreign.TimeRef.{TimeRef}
+use Rattle.tracing_tree_c.specs.declared.drawing.Drawing.{Drawing}
 use Rattle.tracing_tree_c.specs.declared.settings.SettingsRef.{SettingsRef}
-use Rattle.tracing_tree_c.specs.declared.tree.Opening.{Opening}
-use Rattle.tracing_tree_c.specs.declared.tree.Opening.TheVariants.{Opened, There, OtherSize, Unknown, Starved}
-use Rattle.tracing_tree_c.specs.declared.tree.Outcome.{Outcome}
-use Rattle.tracing_tree_c.specs.declared.tree.Outcome.TheVariants.{Missing, NotRead, Answered}
+use Rattle.tracing_tree_c.specs.declared.outcome.Opening.{Opening}
+use Rattle.tracing_tree_c.specs.declared.outcome.Opening.TheVariants.{Opened, There, OtherSize, Unknown, Starved}
+use Rattle.tracing_tree_c.specs.declared.outcome.Outcome.{Outcome}
+use Rattle.tracing_tree_c.specs.declared.outcome.Outcome.TheVariants.{Missing, NotRead, Answered}
 
 -- the number of each outcome
 abbrev pub refusal_status : Refusal → ℕ
@@ -44,28 +44,25 @@ abbrev pub went_after : Outcome → Bool → Bool
 went_after (Answered (Ok (Closed went))) before = went
 went_after outcome before = before
 
--- the answer of a call, and what it leaves
-abbrev pub Answers : Type 0 → Type 0 → Type 0 → (Call → Type 0) → ℕ → Kept → Kept → Type 0
-Answers IsKnown IsText IsSmall IsThis status old new =
+-- the answer to an act, and what it leaves
+abbrev pub Answers : Type 0 → Type 0 → Type 0 → (Result Reply Refusal → Drawing → Drawing → Type 0)
+    → ℕ → Kept → Kept → Type 0
+Answers IsKnown IsText IsSmall Does status old new =
     (outcome : Outcome) × (status ≡ status_of outcome)
-    × Makes IsKnown IsText IsSmall IsThis outcome old new
+    × Makes IsKnown IsText IsSmall Does outcome old new
 
 -- the same, with the value that it stores for C
 abbrev pub AnswersWith : {A : Type 0} → (Outcome → A → A) → Type 0 → Type 0 → Type 0
-    → (Call → Type 0) → ℕ → A → A → Kept → Kept → Type 0
-AnswersWith after IsKnown IsText IsSmall IsThis status before later old new =
+    → (Result Reply Refusal → Drawing → Drawing → Type 0) → ℕ → A → A → Kept → Kept → Type 0
+AnswersWith after IsKnown IsText IsSmall Does status before later old new =
     (outcome : Outcome) × (status ≡ status_of outcome) × (later ≡ after outcome before)
-    × Makes IsKnown IsText IsSmall IsThis outcome old new
-
--- the outcome of setting the time's strings
-abbrev pub AnswersTime : TimeRef → ℕ → Kept → Kept → Type 0
-AnswersTime given status old new =
-    (outcome : Outcome) × (status ≡ status_of outcome) × SetsTime given outcome old new
+    × Makes IsKnown IsText IsSmall Does outcome old new
 
 abbrev pub IsOpened : SettingsRef → Kept → Type 0
 IsOpened given None = ⊥
 IsOpened given (Some new) =
     (timer : Timer) × (timer_of given ≡ Some timer) × (seen_tree new ≡ opened given timer)
+    × (new.entered ≡ [])
 
 abbrev pub opening_status : Opening → ℕ
 opening_status Opened = 0
@@ -95,8 +92,18 @@ pub record IsCopied (text : List ℕ) (count : ℕ) (before after : List ℕ) : 
   pub fits : length text ≤ length before → after ≡ text ++ drop (length text) before
   pub lacks : length before < length text → after ≡ before
 
+-- the same; or memory ran out, and nothing is there
+abbrev pub IsWritten : List ℕ → ℕ → List ℕ → List ℕ → Type 0
+IsWritten text count before after =
+    IsCopied text count before after ⊎ ((count ≡ 0) × (after ≡ before))
+
 -- the text of the last call is copied; the tree stays
 abbrev pub Copies : ℕ → List ℕ → List ℕ → Kept → Kept → Type 0
 Copies count before after None new = (count ≡ 0) × (after ≡ before) × (new ≡ None)
 Copies count before after (Some old) new =
     IsCopied old.layered.layer.writer.bytes count before after × (new ≡ Some old)
+
+-- the id of the innermost entered span that is live, or 0; the tree stays
+abbrev pub IsCurrent : ℕ → Kept → Kept → Type 0
+IsCurrent id None new = (id ≡ 0) × (new ≡ None)
+IsCurrent id (Some old) new = (id ≡ current_id old) × (new ≡ Some old)

@@ -1,3 +1,4 @@
+pub mod Entered
 pub mod Exports
 pub mod Foreign
 pub mod Owned

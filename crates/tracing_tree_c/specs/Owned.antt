@@ -6,7 +6,7 @@ use denote.RawPtr.{Ptr}
 use Rattle.std.specs.contracts.impls.GlobalAllocator.TheImpl.{ghosts}
 use Rattle.std.specs.Box.Ownership.{box_owns}
 use Rattle.std.specs.Coded.{Coded, coded_option}
-use Rattle.tracing_tree_c.specs.contracts.tree.Drawing.{the_row}
+use Rattle.tracing_tree_c.specs.contracts.drawing.Drawing.{the_row}
 
 abbrev pub Kept : Type 0
 Kept = Option the_row.Denot

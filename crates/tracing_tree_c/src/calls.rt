@@ -1,17 +1,23 @@
 //! The functions that C calls. Each returns a status: 0 on success, otherwise the reason (see the
 //! header).
 
-ghost use Rattle.std.specs.Prelude.{◌≡◌, ◌<◌, ◌≤◌, ◌++◌, ⊤, None, drop, length};
+ghost use Rattle.std.specs.Prelude.{◌≡◌, ⊤, None, pos};
+ghost use Rattle.std.specs.Fmt.{signed_decimal};
+ghost use Rattle.tracing_tree_base.specs.Field.{quoted, truth_text};
 ghost use Rattle.tracing_tree_spans.specs.Registry.Ids.{id_of};
 ghost use Rattle.tracing_tree_layer.specs.declared.call.Call.TheVariants.{Clone};
-ghost use Rattle.tracing_tree_c.specs.Foreign.{IsUtf8Fields, IsUtf8Context, IsUtf8New, IsUtf8Event, IsSmallContext, IsSmallNew, IsKnownNew, IsKnownEvent, HasNoFields, IsNewOf, IsEventOf, IsRecordOf, IsCloseOf};
-ghost use Rattle.tracing_tree_c.specs.Exports.{Answers, AnswersOpening, AnswersTime, AnswersWith, Copies, id_after, went_after};
+ghost use Rattle.tracing_tree_c.specs.Foreign.{IsUtf8Fields, IsUtf8Context, IsUtf8New, IsUtf8Event, IsSmallContext, IsSmallNew, IsKnownNew, IsKnownEvent, IsSmallTime, IsUtf8Time, HasNoFields, IsNewOf, IsEventOf, IsRecordOf, IsCloseOf};
+ghost use Rattle.tracing_tree_c.specs.Exports.{Answers, AnswersOpening, AnswersWith, Copies, IsCopied, IsCurrent, IsWritten, id_after, went_after};
+ghost use Rattle.tracing_tree_c.specs.Trees.{Enters, Exits, MakesCall, SetsTime, written_of};
 
+use crate::act::{Enter, Exit};
 use crate::foreign::{
     AttributesRef, ContextRef, EventRef, FieldRef, TimeRef, close_in, event_in, new_in, record_in,
+    time_in,
 };
 use crate::settings::SettingsRef;
 use crate::tree::Tree;
+use crate::value::{copy, write_quoted, write_whole};
 use std::alloc::Global;
 use tracing_tree_base::Id;
 use tracing_tree_layer::call::Call;
@@ -30,7 +36,7 @@ pub extern "C" fn tt_version() -> u32
 /// Makes a tree, unless there is one already. Returns a status.
 #[unsafe(no_mangle)]
 pub extern "C" fn tt_raw_new(alloc: Global, tree: &mut Tree, settings: &SettingsRef) -> u32
-    ensures { AnswersOpening settings.now result tree.old.inner.kept tree.new.inner.kept }
+    ensures { AnswersOpening settings.now result tree.old.kept tree.new.kept }
 {
     tree.open(alloc, settings).status()
 }
@@ -48,8 +54,8 @@ pub extern "C" fn tt_raw_new_span(
     ensures { AnswersWith id_after (IsKnownNew attributes.now)
         (IsUtf8New attributes.now fields.now context.now)
         (IsSmallNew attributes.now fields.now context.now)
-        (IsNewOf attributes.now fields.now context.now) result id.old id.new
-        tree.old.inner.kept tree.new.inner.kept }
+        (MakesCall (IsNewOf attributes.now fields.now context.now)) result id.old id.new
+        tree.old.kept tree.new.kept }
 {
     let read = new_in(alloc, attributes, fields, context, false);
     let outcome = tree.perform(alloc, read);
@@ -68,8 +74,8 @@ pub extern "C" fn tt_raw_event(
 ) -> u32
     ensures { Answers (IsKnownEvent event.now) (IsUtf8Event event.now fields.now context.now)
         (IsSmallContext context.now)
-        (IsEventOf event.now fields.now context.now) result
-        tree.old.inner.kept tree.new.inner.kept }
+        (MakesCall (IsEventOf event.now fields.now context.now)) result
+        tree.old.kept tree.new.kept }
 {
     let read = event_in(alloc, event, fields, context, false);
     tree.perform(alloc, read).status()
@@ -90,8 +96,8 @@ pub extern "C" fn tt_utf8_new_span(
     ensures { AnswersWith id_after (IsKnownNew attributes.now)
         (IsUtf8New attributes.now fields.now context.now)
         (IsSmallNew attributes.now fields.now context.now)
-        (IsNewOf attributes.now fields.now context.now) result id.old id.new
-        tree.old.inner.kept tree.new.inner.kept }
+        (MakesCall (IsNewOf attributes.now fields.now context.now)) result id.old id.new
+        tree.old.kept tree.new.kept }
 {
     let read = new_in(alloc, attributes, fields, context, true);
     let made = tree.perform(alloc, read);
@@ -112,8 +118,8 @@ pub extern "C" fn tt_utf8_event(
     requires { IsUtf8Event event.now fields.now context.now }
     ensures { Answers (IsKnownEvent event.now) (IsUtf8Event event.now fields.now context.now)
         (IsSmallContext context.now)
-        (IsEventOf event.now fields.now context.now) result
-        tree.old.inner.kept tree.new.inner.kept }
+        (MakesCall (IsEventOf event.now fields.now context.now)) result
+        tree.old.kept tree.new.kept }
 {
     let read = event_in(alloc, event, fields, context, true);
     tree.perform(alloc, read).status()
@@ -123,8 +129,8 @@ pub extern "C" fn tt_utf8_event(
 #[unsafe(no_mangle)]
 pub extern "C" fn tt_raw_record(alloc: Global, tree: &mut Tree, id: u64, fields: &[FieldRef]) -> u32
     ensures { Answers ⊤ (IsUtf8Fields fields.now) (HasNoFields fields.now)
-        (IsRecordOf id fields.now) result
-        tree.old.inner.kept tree.new.inner.kept }
+        (MakesCall (IsRecordOf id fields.now)) result
+        tree.old.kept tree.new.kept }
 {
     let read = record_in(alloc, id, fields);
     tree.perform(alloc, read).status()
@@ -133,8 +139,8 @@ pub extern "C" fn tt_raw_record(alloc: Global, tree: &mut Tree, id: u64, fields:
 /// Adds a handle to a span. Returns a status.
 #[unsafe(no_mangle)]
 pub extern "C" fn tt_raw_clone_span(alloc: Global, tree: &mut Tree, id: u64) -> u32
-    ensures { Answers ⊤ ⊤ ⊤ (λ call. call ≡ Clone (id_of id)) result
-        tree.old.inner.kept tree.new.inner.kept }
+    ensures { Answers ⊤ ⊤ ⊤ (MakesCall (λ call. call ≡ Clone (id_of id))) result
+        tree.old.kept tree.new.kept }
 {
     tree.perform(alloc, Ok(Call::Clone(Id(id)))).status()
 }
@@ -150,8 +156,8 @@ pub extern "C" fn tt_raw_close(
     went: &mut bool,
 ) -> u32
     ensures { AnswersWith went_after ⊤ (IsUtf8Context context.now) (IsSmallContext context.now)
-        (IsCloseOf id context.now) result
-        went.old went.new tree.old.inner.kept tree.new.inner.kept }
+        (MakesCall (IsCloseOf id context.now)) result
+        went.old went.new tree.old.kept tree.new.kept }
 {
     let read = close_in(alloc, id, context);
     let outcome = tree.perform(alloc, read);
@@ -163,43 +169,93 @@ pub extern "C" fn tt_raw_close(
 /// Returns a status.
 #[unsafe(no_mangle)]
 pub extern "C" fn tt_raw_set_time(alloc: Global, tree: &mut Tree, time: &TimeRef) -> u32
-    ensures { AnswersTime time.now result tree.old.inner.kept tree.new.inner.kept }
+    ensures { Answers ⊤ (IsUtf8Time time.now) (IsSmallTime time.now)
+        (SetsTime (written_of time.now)) result tree.old.kept tree.new.kept }
 {
-    tree.set_time(alloc, time).status()
+    let read = time_in(alloc, time);
+    tree.perform(alloc, read).status()
+}
+
+/// Enters a live span. Returns a status.
+#[unsafe(no_mangle)]
+pub extern "C" fn tt_raw_enter(alloc: Global, tree: &mut Tree, id: u64) -> u32
+    ensures { Answers ⊤ ⊤ ⊤ (Enters id) result tree.old.kept tree.new.kept }
+{
+    tree.perform(alloc, Ok(Enter(id))).status()
+}
+
+/// Removes the last entry into a span. Returns a status.
+#[unsafe(no_mangle)]
+pub extern "C" fn tt_raw_exit(alloc: Global, tree: &mut Tree, id: u64) -> u32
+    ensures { Answers ⊤ ⊤ ⊤ (Exits id) result tree.old.kept tree.new.kept }
+{
+    tree.perform(alloc, Ok(Exit(id))).status()
+}
+
+/// Returns the id of the innermost entered span that is live, or 0.
+#[unsafe(no_mangle)]
+pub extern "C" fn tt_raw_current(alloc: Global, tree: &mut Tree) -> u64
+    ensures { IsCurrent result tree.old.kept tree.new.kept }
+{
+    let Some(drawing) = tree.take(alloc) else {
+        return 0;
+    };
+    let id = drawing.current();
+    tree.put(drawing);
+    id
 }
 
 /// Frees a tree. Does nothing if there isn't one.
 #[unsafe(no_mangle)]
 pub extern "C" fn tt_raw_free(alloc: Global, tree: &mut Tree)
-    ensures { tree.new.inner.kept ≡ None }
+    ensures { tree.new.kept ≡ None }
 {
-    drop(tree.lift(alloc));
+    drop(tree.take(alloc));
 }
 
 /// Copies the text of the last call to `room`, if it fits. Returns the length of the text in bytes,
 /// or 0 if there isn't a tree.
 #[unsafe(no_mangle)]
 pub extern "C" fn tt_raw_text(alloc: Global, tree: &mut Tree, room: &mut [u8]) -> usize
-    ensures { Copies result room.old room.new tree.old.inner.kept tree.new.inner.kept }
+    ensures { Copies result room.old room.new tree.old.kept tree.new.kept }
 {
-    let Some(drawing) = tree.lift(alloc) else {
+    let Some(drawing) = tree.take(alloc) else {
         return 0;
     };
     let length = copy(drawing.text(), room);
-    tree.lower(drawing);
+    tree.put(drawing);
     length
 }
 
-// Copies a string if it fits, and returns its length in bytes.
-fn copy(text: &[u8], room: &mut [u8]) -> usize
-    ensures length { result ≡ length text.now }
-    ensures fits { length text.now ≤ length room.old
-        → room.new ≡ text.now ++ drop (length text.now) room.old }
-    ensures lacks { length room.old < length text.now → room.new ≡ room.old }
+/// Writes a string in Rust's debug form to `room`, if it fits. Returns its length in bytes, or 0 if
+/// memory runs out.
+#[unsafe(no_mangle)]
+pub extern "C" fn tt_raw_string(alloc: Global, text: &[u8], room: &mut [u8]) -> usize
+    ensures { IsWritten (quoted text.now) result room.old room.new }
 {
-    let length = text.len();
-    if length <= room.len() {
-        room[..length].copy_from_slice(text);
-    }
-    length
+    write_quoted(alloc, text, room)
+}
+
+/// Writes a whole number to `room` like `tt_raw_string`.
+#[unsafe(no_mangle)]
+pub extern "C" fn tt_raw_int(alloc: Global, value: i64, room: &mut [u8]) -> usize
+    ensures { IsWritten (signed_decimal value) result room.old room.new }
+{
+    write_whole(alloc, i128::from(value), room)
+}
+
+/// Writes a whole number to `room` like `tt_raw_string`.
+#[unsafe(no_mangle)]
+pub extern "C" fn tt_raw_uint(alloc: Global, value: u64, room: &mut [u8]) -> usize
+    ensures { IsWritten (signed_decimal (pos value)) result room.old room.new }
+{
+    write_whole(alloc, i128::from(value), room)
+}
+
+/// Writes `true` or `false` to `room`, if it fits. Returns the length in bytes.
+#[unsafe(no_mangle)]
+pub extern "C" fn tt_raw_bool(value: bool, room: &mut [u8]) -> usize
+    ensures { IsCopied (truth_text value) result room.old room.new }
+{
+    copy(if value { b"true" } else { b"false" }, room)
 }

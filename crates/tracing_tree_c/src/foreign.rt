@@ -16,7 +16,7 @@ use tracing_tree_base::text::Text;
 use tracing_tree_base::{Context, Id};
 use tracing_tree_drawing::format::push_event_texts;
 use tracing_tree_layer::call::Call;
-use tracing_tree_layer::told::ToldEvent;
+use tracing_tree_layer::parts::EventParts;
 use tracing_tree_spans::registry::{Attributes, Event, Parent, Record};
 use tracing_tree_time::Moment;
 
@@ -326,8 +326,8 @@ impl<'a> Model for EventTexts<'a> {
     ghost invariant = { λ e. IsUtf8Fields e.fields.now };
 }
 
-impl ToldEvent for EventTexts<'_> {
-    ghost told = { λ event. event };
+impl EventParts for EventTexts<'_> {
+    ghost whole = { λ event. event };
 
     fn level(&self) -> Level {
         self.level

@@ -4,13 +4,17 @@
 //! function returns and changes.
 #![tactic(auto)]
 
+pub mod act;
 pub mod calls;
+pub mod drawing;
+pub mod entered;
 pub mod foreign;
-mod handle;
 mod layout;
 pub mod lent;
+pub mod outcome;
 pub mod parts;
 mod raw;
 pub mod settings;
 pub mod timer;
 pub mod tree;
+mod value;

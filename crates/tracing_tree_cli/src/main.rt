@@ -10,7 +10,7 @@ use tracing_tree::{LineCause, LineFault, LinesRun, run_lines, status};
 
 fn main(rt: HostRuntime) -> ExitCode {
     let (fault, flushed) = draw(&rt);
-    tell(&rt, &fault, flushed);
+    emit(&rt, &fault, flushed);
     ExitCode::from(status(&fault, flushed))
 }
 
@@ -36,11 +36,11 @@ fn draw<R: AllocGlobal + Input + Print>(rt: &R) -> (Option<LineFault>, bool) {
 }
 
 // Prints the fault on standard error. A fault of standard error itself changes nothing.
-fn tell(rt: &impl Eprint, fault: &Option<LineFault>, flushed: bool) {
-    let told = match fault {
+fn emit(rt: &impl Eprint, fault: &Option<LineFault>, flushed: bool) {
+    let emitted = match fault {
         Some(fault) => eprintln!(rt; "{fault}"),
         None if flushed => Ok(()),
         None => eprintln!(rt; "end: writer"),
     };
-    let _ = told;
+    let _ = emitted;
 }

@@ -3,7 +3,7 @@
 ghost use Rattle.std.specs.Prelude.{◌≡◌, ◌==◌, ◌||◌, ◌++◌, [], ℕ, List, Option, IfSome, codes, false, not};
 ghost use Rattle.tracing_tree_base.specs.declared.context.Moment.{Moment};
 ghost use Rattle.tracing_tree_lines.specs.Lines.Spelled.{input_lines};
-ghost use Rattle.ttree_source.specs.Source.{hear, source_after};
+ghost use Rattle.ttree_source.specs.Source.{interpret, source_after};
 ghost use Rattle.ttree_go_test.specs.Failures.{some_failed};
 ghost use Rattle.ttree_go_test.specs.GoTest.{GoState, go_ended, go_takes, has_failed, moved, nothing_run};
 ghost use Rattle.ttree_go_test.specs.Texts.{own_name};
@@ -23,7 +23,7 @@ use ttree_source::{Notes, draw_source};
 pub fn tests_fail_by_a_line_or_a_package_that_runs()
     ensures { (next : ℕ) (moment : Moment) (lines : List (List ℕ)) →
         has_failed (source_after go_takes go_ended (nothing_run next moment) lines)
-        ≡ some_failed lines (hear go_takes (nothing_run next moment) lines).source }
+        ≡ some_failed lines (interpret go_takes (nothing_run next moment) lines).source }
 {}
 
 /// The counts say whether tests have failed: a test or a package failed, or a package didn't end.
@@ -58,7 +58,7 @@ pub fn have_tests_failed<L: LineInput, W: Output, FT: FormatTime, N: Notes>(
 ) -> Option<bool>
     ensures { IfSome (L.remaining lines.old) (λ input. IfSome result (λ failed. failed
         ≡ some_failed (input_lines input)
-        (hear go_takes (nothing_run next moment) (input_lines input)).source)) }
+        (interpret go_takes (nothing_run next moment) (input_lines input)).source)) }
 {
     let Ok(mut source) = GoTest::new(alloc, next, moment) else {
         return None;

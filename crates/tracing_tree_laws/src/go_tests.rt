@@ -8,7 +8,7 @@ ghost use Rattle.ttree_go_test.specs.GoTest.{go_ends, go_takes, kind_in, moved, 
 ghost use Rattle.ttree_go_test.specs.Names.{named};
 ghost use Rattle.ttree_go_test.specs.Nesting.{PlacesCalls};
 ghost use Rattle.ttree_go_test.specs.Printed.{ShowsEachLine, build_prints, plain_line, texts_added};
-ghost use Rattle.ttree_source.specs.Source.{calls_of, hear};
+ghost use Rattle.ttree_source.specs.Source.{calls_of, interpret};
 
 /// Over a run of Go's tests, each line that a test or a package prints is one event, unless it is
 /// blank or only frames. The lines of a test, joined, are the strings that it prints without its
@@ -26,7 +26,7 @@ pub fn each_printed_line_is_one_event()
 pub fn tests_print_in_their_own_spans()
     ensures { (next : ℕ) (moment : Moment) (before : List (List ℕ)) (value : Json)
         (path test text : List ℕ) →
-        let s = (hear go_takes (nothing_run next moment) before).source in
+        let s = (interpret go_takes (nothing_run next moment) before).source in
         PlacesCalls path test s (printed (kind_in value) path test text s) }
 {}
 
@@ -34,7 +34,7 @@ pub fn tests_print_in_their_own_spans()
 /// in, or of the package. That span opens in its own nearest running test in the same way.
 pub fn tests_start_in_the_nearest_running_test()
     ensures { (next : ℕ) (moment : Moment) (before : List (List ℕ)) (path test : List ℕ) →
-        let s = (hear go_takes (nothing_run next moment) before).source in
+        let s = (interpret go_takes (nothing_run next moment) before).source in
         named test (tests_of path s) ≡ None → PlacesCalls path test s (ran path test s) }
 {}
 
@@ -43,7 +43,7 @@ pub fn tests_start_in_the_nearest_running_test()
 pub fn packages_close_inner_spans_first()
     ensures { (next : ℕ) (moment : Moment) (before : List (List ℕ)) (action path : List ℕ)
         (elapsed : Option (List ℕ)) → is_end action ≡ true →
-        let s = (hear go_takes (nothing_run next moment) before).source in
+        let s = (interpret go_takes (nothing_run next moment) before).source in
         ClosesAll (tests_of path s) (moved action path [] elapsed s).calls }
 {}
 
@@ -51,6 +51,6 @@ pub fn packages_close_inner_spans_first()
 pub fn ended_packages_run_no_test()
     ensures { (next : ℕ) (moment : Moment) (before : List (List ℕ)) (action path : List ℕ)
         (elapsed : Option (List ℕ)) → is_end action ≡ true →
-        let s = (hear go_takes (nothing_run next moment) before).source in
+        let s = (interpret go_takes (nothing_run next moment) before).source in
         tests_of path (moved action path [] elapsed s) ≡ [] }
 {}

@@ -19,7 +19,7 @@ pub fn open_on_layered<W: Output, FT: FormatTime, N: Now>(
     fields: &[(&str, Value<'_>)],
 ) -> Result<Id, TraceFault>
     ensures { IsOpened (λ call answer old new. Changes (seen FT.FormatTime W.Output) (IsAnswered
-        call answer) old new) N.tells name.now (fields_of fields.now) result tracer.old tracer.new }
+        call answer) old new) N.reads name.now (fields_of fields.now) result tracer.old tracer.new }
 {
     tracer.open(name, fields)
 }

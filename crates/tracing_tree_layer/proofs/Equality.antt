@@ -14,7 +14,7 @@ use Rattle.tracing_tree_base.specs.declared.context.Context.{Context}
 use Rattle.tracing_tree_spans.specs.Registry.Ids.{id_of}
 use Rattle.tracing_tree_spans.specs.declared.registry.Record.{Record}
 use Rattle.tracing_tree_layer.specs.declared.call.Call.{Call}
-use Rattle.tracing_tree_layer.specs.declared.call.Call.TheVariants.{New, Clone, Record as RecordOf, Event as Told, Close}
+use Rattle.tracing_tree_layer.specs.declared.call.Call.TheVariants.{New, Clone, Record as RecordOf, Event as Emitted, Close}
 use Rattle.tracing_tree_layer.specs.contracts.call.CallPartialEq.TheImpl.{ghosts as call}
 use Rattle.tracing_tree_base.specs.Equal.{field_eq, fields_eq}
 use Rattle.tracing_tree_base.specs.declared.field.Field.{Field}
@@ -114,35 +114,35 @@ abbrev of_new : Call → Attributes → Attributes
 of_new (New a c) d = a
 of_new (Clone i) d = d
 of_new (RecordOf i r) d = d
-of_new (Told e c) d = d
+of_new (Emitted e c) d = d
 of_new (Close i c) d = d
 
 abbrev of_event : Call → Event → Event
 of_event (New a c) d = d
 of_event (Clone i) d = d
 of_event (RecordOf i r) d = d
-of_event (Told e c) d = e
+of_event (Emitted e c) d = e
 of_event (Close i c) d = d
 
 abbrev of_record : Call → Record → Record
 of_record (New a c) d = d
 of_record (Clone i) d = d
 of_record (RecordOf i r) d = r
-of_record (Told e c) d = d
+of_record (Emitted e c) d = d
 of_record (Close i c) d = d
 
 abbrev id_in_call : Call → Id → Id
 id_in_call (New a c) d = d
 id_in_call (Clone i) d = i
 id_in_call (RecordOf i r) d = i
-id_in_call (Told e c) d = d
+id_in_call (Emitted e c) d = d
 id_in_call (Close i c) d = i
 
 abbrev context_in_call : Call → Context → Context
 context_in_call (New a c) d = c
 context_in_call (Clone i) d = d
 context_in_call (RecordOf i r) d = d
-context_in_call (Told e c) d = c
+context_in_call (Emitted e c) d = c
 context_in_call (Close i c) d = c
 
 record_decides : (a b : Record) → Decides (fields_eq a.fields b.fields) (a ≡ b)
@@ -153,25 +153,25 @@ pub call_decides : (a b : Call) → Decides (call.eq a b) (a ≡ b)
 call_decides (New a c) (New b d) = both New of_new context_in_call (λ x y z. refl) (λ x y z. refl) a b c d _ _ (attributes_decide a b) (context_decides c d)
 call_decides (Clone i) (Clone j) = decides-by _ (λ e. ap Clone e) (λ e. ap (λ c. id_in_call c i) e) (id_decides i j)
 call_decides (RecordOf i r) (RecordOf j s) = both RecordOf id_in_call of_record (λ x y z. refl) (λ x y z. refl) i j r s _ _ (id_decides i j) (record_decides r s)
-call_decides (Told e c) (Told f d) = both Told of_event context_in_call (λ x y z. refl) (λ x y z. refl) e f c d _ _ (event_decides e f) (context_decides c d)
+call_decides (Emitted e c) (Emitted f d) = both Emitted of_event context_in_call (λ x y z. refl) (λ x y z. refl) e f c d _ _ (event_decides e f) (context_decides c d)
 call_decides (Close i c) (Close j d) = both Close id_in_call context_in_call (λ x y z. refl) (λ x y z. refl) i j c d _ _ (id_decides i j) (context_decides c d)
 call_decides (New a c) (Clone j) = (λ h. cc, λ h. cc)
 call_decides (New a c) (RecordOf j s) = (λ h. cc, λ h. cc)
-call_decides (New a c) (Told f d) = (λ h. cc, λ h. cc)
+call_decides (New a c) (Emitted f d) = (λ h. cc, λ h. cc)
 call_decides (New a c) (Close j d) = (λ h. cc, λ h. cc)
 call_decides (Clone i) (New b d) = (λ h. cc, λ h. cc)
 call_decides (Clone i) (RecordOf j s) = (λ h. cc, λ h. cc)
-call_decides (Clone i) (Told f d) = (λ h. cc, λ h. cc)
+call_decides (Clone i) (Emitted f d) = (λ h. cc, λ h. cc)
 call_decides (Clone i) (Close j d) = (λ h. cc, λ h. cc)
 call_decides (RecordOf i r) (New b d) = (λ h. cc, λ h. cc)
 call_decides (RecordOf i r) (Clone j) = (λ h. cc, λ h. cc)
-call_decides (RecordOf i r) (Told f d) = (λ h. cc, λ h. cc)
+call_decides (RecordOf i r) (Emitted f d) = (λ h. cc, λ h. cc)
 call_decides (RecordOf i r) (Close j d) = (λ h. cc, λ h. cc)
-call_decides (Told e c) (New b d) = (λ h. cc, λ h. cc)
-call_decides (Told e c) (Clone j) = (λ h. cc, λ h. cc)
-call_decides (Told e c) (RecordOf j s) = (λ h. cc, λ h. cc)
-call_decides (Told e c) (Close j d) = (λ h. cc, λ h. cc)
+call_decides (Emitted e c) (New b d) = (λ h. cc, λ h. cc)
+call_decides (Emitted e c) (Clone j) = (λ h. cc, λ h. cc)
+call_decides (Emitted e c) (RecordOf j s) = (λ h. cc, λ h. cc)
+call_decides (Emitted e c) (Close j d) = (λ h. cc, λ h. cc)
 call_decides (Close i c) (New b d) = (λ h. cc, λ h. cc)
 call_decides (Close i c) (Clone j) = (λ h. cc, λ h. cc)
 call_decides (Close i c) (RecordOf j s) = (λ h. cc, λ h. cc)
-call_decides (Close i c) (Told f d) = (λ h. cc, λ h. cc)
+call_decides (Close i c) (Emitted f d) = (λ h. cc, λ h. cc)

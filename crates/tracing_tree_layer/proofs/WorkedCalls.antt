@@ -50,14 +50,14 @@ made name context = made_with [] name context
 abbrev pub message : List ℕ → Field
 message text = rendered_field (codes "message") text
 
-abbrev pub told : Level → Parent → List Field → Context → Call
-told level parent fields context = Event (record { level = level; target = []; parent = parent; fields = fields }) context
+abbrev pub emitted : Level → Parent → List Field → Context → Call
+emitted level parent fields context = Event (record { level = level; target = []; parent = parent; fields = fields }) context
 
 abbrev pub informed : List ℕ → Context → Call
-informed text context = told Info Current (message text ∷ []) context
+informed text context = emitted Info Current (message text ∷ []) context
 
 abbrev pub warned : List ℕ → Context → Call
-warned text context = told Warn Current (message text ∷ []) context
+warned text context = emitted Warn Current (message text ∷ []) context
 
 abbrev pub closed : ℕ → Call
 closed i = Close (id_of i) outside

@@ -2,7 +2,7 @@
 
 use crate::call::{Call, Reply};
 use crate::layered::Layered;
-use crate::told::ToldEvent;
+use crate::parts::EventParts;
 use tracing_tree_base::{Context, Id, Refusal};
 use tracing_tree_output::Output;
 use tracing_tree_spans::registry::{Attributes, Record};
@@ -50,8 +50,8 @@ pub trait Calls {
         ensures { answers (Call.Record id values) (answer_as done result) self.old self.new };
 
     /// Records an event, without a copy of its strings.
-    fn event<E: ToldEvent>(&mut self, event: &E, context: &Context) -> Result<(), Refusal>
-        ensures { answers (Call.Event (E.told event.now) context.now) (answer_as done result)
+    fn event<E: EventParts>(&mut self, event: &E, context: &Context) -> Result<(), Refusal>
+        ensures { answers (Call.Event (E.whole event.now) context.now) (answer_as done result)
             self.old self.new };
 
     /// Drops a handle of a span. Returns whether the span was removed.
@@ -104,7 +104,7 @@ impl<W: Output, FT: FormatTime> Calls for Layered<W, FT> {
         self.add_fields(id, values.fields)
     }
 
-    fn event<E: ToldEvent>(&mut self, event: &E, context: &Context) -> Result<(), Refusal> {
+    fn event<E: EventParts>(&mut self, event: &E, context: &Context) -> Result<(), Refusal> {
         if self.layer().failed() {
             return Err(Refusal::Failed);
         }
@@ -145,7 +145,7 @@ impl<C: Calls> Calls for &mut C {
         (**self).record(id, values)
     }
 
-    fn event<E: ToldEvent>(&mut self, event: &E, context: &Context) -> Result<(), Refusal> {
+    fn event<E: EventParts>(&mut self, event: &E, context: &Context) -> Result<(), Refusal> {
         (**self).event(event, context)
     }
 

@@ -17,7 +17,7 @@ ghost use Rattle.tracing_tree_layer.specs.Layer.Layers.{is_fresh, IsFlushed};
 ghost use Rattle.tracing_tree_output.specs.Writers.{seen_writer};
 ghost use Rattle.tracing_tree_layer.specs.Layer.Drawn.{failed_by, has_no_id, DoesTurn, Sends, is_event_too_wide};
 
-use crate::told::ToldEvent;
+use crate::parts::EventParts;
 pub use block::push_event_tail;
 use drawing::CallDrawing;
 use plan::Plan;
@@ -251,7 +251,7 @@ impl<W: Output, FT: FormatTime> HierarchicalLayer<W, FT> {
     }
 
     // Draws an event that is nested in `depth` spans. Uses the tail, if it was drawn before.
-    pub(crate) fn write_event<S: LookupSpan, E: ToldEvent>(
+    pub(crate) fn write_event<S: LookupSpan, E: EventParts>(
         &mut self,
         event: &E,
         tail: Option<&str>,
@@ -260,14 +260,14 @@ impl<W: Output, FT: FormatTime> HierarchicalLayer<W, FT> {
         context: &Context,
     ) -> Result<(), Refusal>
         requires sound { self.old.failed ≡ false }
-        requires depth { depth ≡ event_depth (S.forest spans.old) (E.told event.now) context.now }
-        requires tail { IfSome tail (λ t. t.now ≡ event_tail self.old.settings (E.told event.now)) }
+        requires depth { depth ≡ event_depth (S.forest spans.old) (E.whole event.now) context.now }
+        requires tail { IfSome tail (λ t. t.now ≡ event_tail self.old.settings (E.whole event.now)) }
         ensures { let old = self.old in
             let forest = S.forest spans.old in
             let timer = FT.timer old.timer in
-            let turn = turn_of_event old.settings timer context.now forest old.last (E.told event.now) in
+            let turn = turn_of_event old.settings timer context.now forest old.last (E.whole event.now) in
             let faults = timer_faults_at old.settings timer forest context.now in
-            let wide = is_event_too_wide old.settings timer forest (E.told event.now) context.now in
+            let wide = is_event_too_wide old.settings timer forest (E.whole event.now) context.now in
             DoesTurn (seen_writer W.Output) turn faults wide result old self.new
             forest (S.forest spans.new) }
     {

@@ -12,7 +12,7 @@ ghost use Rattle.tracing_tree_output.specs.Writers.{IsShown};
 
 use crate::call::{Call, Reply};
 use crate::layer::HierarchicalLayer;
-use crate::told::ToldEvent;
+use crate::parts::EventParts;
 use std::alloc::{AllocError, Global};
 use std::marker::Model;
 use std::mem;
@@ -310,16 +310,16 @@ impl<W: Output, FT: FormatTime> Layered<W, FT> {
 
     // Draws an event. No span is added or removed. Retracing may mark spans as printed and change
     // the last span.
-    pub(crate) fn draw_event<E: ToldEvent>(
+    pub(crate) fn draw_event<E: EventParts>(
         &mut self,
         event: &E,
         context: &Context,
         tail: Option<&str>,
     ) -> Result<(), Refusal>
         requires sound { self.old.layer.failed ≡ false }
-        requires tail { IfSome tail (λ t. t.now ≡ event_tail self.old.layer.settings (E.told event.now)) }
+        requires tail { IfSome tail (λ t. t.now ≡ event_tail self.old.layer.settings (E.whole event.now)) }
         ensures { Changes (seen FT.FormatTime W.Output)
-            (IsAnswered (Call.Event (E.told event.now) context.now) (answer_as done result))
+            (IsAnswered (Call.Event (E.whole event.now) context.now) (answer_as done result))
             self.old self.new }
     {
         let depth = depth(&self.registry, event.parent().named(context.current));

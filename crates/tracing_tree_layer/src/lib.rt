@@ -11,7 +11,7 @@ pub mod difference;
 pub mod flushed;
 pub mod layer;
 pub mod layered;
-pub mod told;
+pub mod parts;
 
 pub use call::{Call, Reply};
 pub use calls::Calls;

@@ -100,11 +100,11 @@ fn read<R: AllocGlobal + Eprint + Input + Print>(rt: &R, amount: usize) -> ExitC
 // Prints the fault on standard error, if there is one, and returns the status. A fault of standard
 // error itself changes nothing.
 fn end(rt: &impl Eprint, run: Result<(), RowFault>, flushed: bool) -> ExitCode {
-    let told = match run {
+    let emitted = match run {
         Err(fault) => eprintln!(rt; "{fault}"),
         Ok(()) if flushed => return ExitCode::SUCCESS,
         Ok(()) => eprintln!(rt; "end: writer"),
     };
-    let _ = told;
+    let _ = emitted;
     ExitCode::FAILURE
 }

@@ -1,7 +1,7 @@
 -- Members of lists, one by one.
 use Rattle.std.proofs.Common.{◌≡◌, ℕ, zero, suc, ◌<◌, ◌≤◌, List, [], ◌∷◌, ◌++◌, ◌⊎◌, refl, sym, subst, inl, inr, arith, Option, Some, None, Any, flat_map, slice_get, min}
 use Rattle.std.proofs.lemmas.Bool.{cases_lt}
-use Rattle.tracing_tree_shared.specs.Finish.{least, lesser}
+use Rattle.tracing_tree_shared.specs.Finish.{smallest, lesser}
 
 -- some element has it
 abbrev pub Has : {A : Type 0} → (A → Type 0) → List A → Type 0
@@ -74,32 +74,32 @@ has_map P Q f (x ∷ xs) (inr h) = inr (has_map P Q f xs h)
 abbrev pub In : ℕ → List ℕ → Type 0
 In place places = Has (λ other. other ≡ place) places
 
-pub least-append : (found : Option ℕ) (xs ys : List ℕ) → least found (xs ++ ys) ≡ least (least found xs) ys
-least-append found [] ys = refl
-least-append found (x ∷ xs) ys = least-append (lesser found x) xs ys
+pub smallest-append : (found : Option ℕ) (xs ys : List ℕ) → smallest found (xs ++ ys) ≡ smallest (smallest found xs) ys
+smallest-append found [] ys = refl
+smallest-append found (x ∷ xs) ys = smallest-append (lesser found x) xs ys
 
-least_some : (found : ℕ) (xs : List ℕ) → least (Some found) xs ≡ None → ⊥
+least_some : (found : ℕ) (xs : List ℕ) → smallest (Some found) xs ≡ None → ⊥
 least_some found [] e = cc
 least_some found (x ∷ xs) e = least_some (min found x) xs e
 
 -- without a smallest place there is no place
-pub least_none : (xs : List ℕ) → least None xs ≡ None → (place : ℕ) → In place xs → ⊥
+pub least_none : (xs : List ℕ) → smallest None xs ≡ None → (place : ℕ) → In place xs → ⊥
 least_none [] e place h = h
 least_none (x ∷ xs) e place h = least_some x xs e
 
 -- the smallest place is one of them, or the one that was found before, and no other is below
-pub record IsLeast (found : ℕ) (xs : List ℕ) (place : ℕ) : Type 0 where
+pub record IsSmallest (found : ℕ) (xs : List ℕ) (place : ℕ) : Type 0 where
   pub among : (found ≡ place) ⊎ In place xs
   pub found_above : place ≤ found
   pub above : (other : ℕ) → In other xs → place ≤ other
 
-least_from : (found : ℕ) (xs : List ℕ) (place : ℕ) → least (Some found) xs ≡ Some place → IsLeast found xs place
+least_from : (found : ℕ) (xs : List ℕ) (place : ℕ) → smallest (Some found) xs ≡ Some place → IsSmallest found xs place
 least_from found [] place e = of_same (same e)
   where
     same : Some found ≡ Some place → found ≡ place
     same e = cc
 
-    of_same : found ≡ place → IsLeast found [] place
+    of_same : found ≡ place → IsSmallest found [] place
     of_same s = record { among = inl s; found_above = omega (arith, s); above = λ other h. absurd h }
 least_from found (x ∷ xs) place e =
     let r = least_from (min found x) xs place e in record {
@@ -114,11 +114,11 @@ least_from found (x ∷ xs) place e =
     among (inl lt) (inr h) = inr (inr h)
     among (inr le) (inr h) = inr (inr h)
 
-    above : IsLeast (min found x) xs place → (other : ℕ) → In other (x ∷ xs) → place ≤ other
+    above : IsSmallest (min found x) xs place → (other : ℕ) → In other (x ∷ xs) → place ≤ other
     above r other (inl s) = omega (arith, r.found_above, s)
     above r other (inr h) = r.above other h
 
-pub least_is : (xs : List ℕ) (place : ℕ) → least None xs ≡ Some place → In place xs × ((other : ℕ) → In other xs → place ≤ other)
+pub least_is : (xs : List ℕ) (place : ℕ) → smallest None xs ≡ Some place → In place xs × ((other : ℕ) → In other xs → place ≤ other)
 least_is [] place e = cc
 least_is (x ∷ xs) place e =
     let r = least_from x xs place e in (among r.among, λ other. above r other)
@@ -127,6 +127,6 @@ least_is (x ∷ xs) place e =
     among (inl s) = inl s
     among (inr h) = inr h
 
-    above : IsLeast x xs place → (other : ℕ) → In other (x ∷ xs) → place ≤ other
+    above : IsSmallest x xs place → (other : ℕ) → In other (x ∷ xs) → place ≤ other
     above r other (inl s) = omega (arith, r.found_above, s)
     above r other (inr h) = r.above other h

@@ -13,8 +13,8 @@ use Rattle.tracing_tree_layer.specs.contracts.call.CallPartialEq.TheImpl.{ghosts
 use Rattle.tracing_tree_layer.specs.contracts.call.ReplyPartialEq.TheImpl.{ghosts as reply}
 use Rattle.tracing_tree_layer.proofs.Equality.{call_decides}
 use Rattle.tracing_tree_shared.specs.History.{Entry, Slip, Slips, all_slips, slips_at, KeepsSlip, HasOther, IsLateIn, IsStrange, IsFirstStrange, IsOneHistory}
-use Rattle.tracing_tree_shared.specs.Finish.{keeps_slip, is_late, greater, is_misplaced, misplaced, least, RisesUpTo}
-use Rattle.tracing_tree_shared.proofs.Lists.{Has, In, has_any, any_has, has_left, has_right, has_at, has_flat, flat_has, has_map, least-append, least_none, least_is}
+use Rattle.tracing_tree_shared.specs.Finish.{keeps_slip, is_late, greater, is_misplaced, misplaced, smallest, RisesUpTo}
+use Rattle.tracing_tree_shared.proofs.Lists.{Has, In, has_any, any_has, has_left, has_right, has_at, has_flat, flat_has, has_map, smallest-append, least_none, least_is}
 
 -- ---- one receipt
 
@@ -86,27 +86,27 @@ late-split (Some g) other place e = split (cases_lt other place)
 
 module _ (history : List Entry) where
   -- the part of one receipt
-  abbrev told : Bool → Slip → List ℕ → List ℕ
-  told bad slip rest = (if bad then slip.place ∷ [] else []) ++ rest
+  abbrev emitted : Bool → Slip → List ℕ → List ℕ
+  emitted bad slip rest = (if bad then slip.place ∷ [] else []) ++ rest
 
-  told-here : (bad : Bool) (slip : Slip) (rest : List ℕ) → bad ≡ true → In slip.place (told bad slip rest)
-  told-here bad slip rest e = subst (λ b. In slip.place (told b slip rest)) (sym e) (inl refl)
+  emitted-here : (bad : Bool) (slip : Slip) (rest : List ℕ) → bad ≡ true → In slip.place (emitted bad slip rest)
+  emitted-here bad slip rest e = subst (λ b. In slip.place (emitted b slip rest)) (sym e) (inl refl)
 
-  told-later : (bad : Bool) (slip : Slip) (rest : List ℕ) (place : ℕ) → In place rest → In place (told bad slip rest)
-  told-later bad slip rest place h = has_right (λ other. other ≡ place) (if bad then slip.place ∷ [] else []) rest h
+  emitted-later : (bad : Bool) (slip : Slip) (rest : List ℕ) (place : ℕ) → In place rest → In place (emitted bad slip rest)
+  emitted-later bad slip rest place h = has_right (λ other. other ≡ place) (if bad then slip.place ∷ [] else []) rest h
 
-  told-split : (bad : Bool) (slip : Slip) (rest : List ℕ) (place : ℕ) → In place (told bad slip rest) → ((bad ≡ true) × (slip.place ≡ place)) ⊎ In place rest
-  told-split true slip rest place (inl e) = inl (refl, e)
-  told-split true slip rest place (inr h) = inr h
-  told-split false slip rest place h = inr h
+  emitted-split : (bad : Bool) (slip : Slip) (rest : List ℕ) (place : ℕ) → In place (emitted bad slip rest) → ((bad ≡ true) × (slip.place ≡ place)) ⊎ In place rest
+  emitted-split true slip rest place (inl e) = inl (refl, e)
+  emitted-split true slip rest place (inr h) = inr h
+  emitted-split false slip rest place h = inr h
 
   late_under : (greatest : Option ℕ) (slips : Slips) (j : ℕ) (d : Slip) → j < length slips → is_late greatest (get_or slips j d).place ≡ true →
       In (get_or slips j d).place (misplaced history greatest slips)
   late_under greatest [] j d lt e = absurd (omega (arith, lt))
   late_under greatest (s ∷ ss) zero d lt e =
-      told-here (is_misplaced history greatest s) s (misplaced history (greater greatest s.place) ss) (or_left (is_late greatest s.place) (not (keeps_slip history s)) e)
+      emitted-here (is_misplaced history greatest s) s (misplaced history (greater greatest s.place) ss) (or_left (is_late greatest s.place) (not (keeps_slip history s)) e)
   late_under greatest (s ∷ ss) (suc j) d lt e =
-      told-later (is_misplaced history greatest s) s (misplaced history (greater greatest s.place) ss) (get_or ss j d).place
+      emitted-later (is_misplaced history greatest s) s (misplaced history (greater greatest s.place) ss) (get_or ss j d).place
       (late_under (greater greatest s.place) ss j d (omega (arith, lt)) (late-kept greatest s.place (get_or ss j d).place e))
 
   late_after : (greatest : Option ℕ) (slips : Slips) (i j : ℕ) (d : Slip) → i < j → j < length slips → (get_or slips j d).place ≤ (get_or slips i d).place →
@@ -114,10 +114,10 @@ module _ (history : List Entry) where
   late_after greatest [] i j d order lt h = absurd (omega (arith, lt))
   late_after greatest (s ∷ ss) i zero d order lt h = absurd (omega (arith, order))
   late_after greatest (s ∷ ss) zero (suc j) d order lt h =
-      told-later (is_misplaced history greatest s) s (misplaced history (greater greatest s.place) ss) (get_or ss j d).place
+      emitted-later (is_misplaced history greatest s) s (misplaced history (greater greatest s.place) ss) (get_or ss j d).place
       (late_under (greater greatest s.place) ss j d (omega (arith, lt)) (late-here greatest s.place (get_or ss j d).place h))
   late_after greatest (s ∷ ss) (suc i) (suc j) d order lt h =
-      told-later (is_misplaced history greatest s) s (misplaced history (greater greatest s.place) ss) (get_or ss j d).place
+      emitted-later (is_misplaced history greatest s) s (misplaced history (greater greatest s.place) ss) (get_or ss j d).place
       (late_after (greater greatest s.place) ss i j d (omega (arith, order)) (omega (arith, lt)) h)
 
   other_in : (greatest : Option ℕ) (slips : Slips) (slip : Slip) → Has (λ other. other ≡ slip) slips → ¬ (KeepsSlip history slip) →
@@ -125,14 +125,14 @@ module _ (history : List Entry) where
   other_in greatest [] slip h unlike = absurd h
   other_in greatest (s ∷ ss) slip (inl e) unlike =
       subst (λ (x : Slip). In x.place (misplaced history greatest (s ∷ ss))) e
-      (told-here (is_misplaced history greatest s) s (misplaced history (greater greatest s.place) ss)
+      (emitted-here (is_misplaced history greatest s) s (misplaced history (greater greatest s.place) ss)
       (or_right (is_late greatest s.place) (not (keeps_slip history s)) (not_from_false (keeps_slip history s) (unkept (keeps_slip history s) refl))))
     where
       unkept : (b : Bool) → keeps_slip history s ≡ b → keeps_slip history s ≡ false
       unkept true k = absurd (unlike (subst (λ x. KeepsSlip history x) e ((keeps_decides history s).0 k)))
       unkept false k = k
   other_in greatest (s ∷ ss) slip (inr h) unlike =
-      told-later (is_misplaced history greatest s) s (misplaced history (greater greatest s.place) ss) slip.place (other_in (greater greatest s.place) ss slip h unlike)
+      emitted-later (is_misplaced history greatest s) s (misplaced history (greater greatest s.place) ss) slip.place (other_in (greater greatest s.place) ss slip h unlike)
 
   -- why a place is there
   record Reason (greatest : Option ℕ) (slips : Slips) (place : ℕ) : Type 0 where
@@ -145,7 +145,7 @@ module _ (history : List Entry) where
 
   reason : (greatest : Option ℕ) (slips : Slips) (place : ℕ) → In place (misplaced history greatest slips) → Reason greatest slips place
   reason greatest [] place h = absurd h
-  reason greatest (s ∷ ss) place h = split (λ k. reason (greater greatest s.place) ss place k) (told-split (is_misplaced history greatest s) s (misplaced history (greater greatest s.place) ss) place h)
+  reason greatest (s ∷ ss) place h = split (λ k. reason (greater greatest s.place) ss place k) (emitted-split (is_misplaced history greatest s) s (misplaced history (greater greatest s.place) ss) place h)
     where
       not_kept : keeps_slip history s ≡ false → ¬ (KeepsSlip history s)
       not_kept e k = both_ways (keeps_slip history s) e ((keeps_decides history s).1 k)
@@ -293,7 +293,7 @@ module _ (history : List Entry) where
       (inl (within, not_one), λ other lt. no_strange passes other (λ w. below other lt) (λ h. omega (arith, from other h)))
 
   -- a misplaced receipt, with one receipt at each place before
-  pub first_misplaced : (passes : List Slips) (place end : ℕ) → least None (all_misplaced passes) ≡ Some place → (place ≤ end) ⊎ (length history ≤ end) → HaveOne passes end →
+  pub first_misplaced : (passes : List Slips) (place end : ℕ) → smallest None (all_misplaced passes) ≡ Some place → (place ≤ end) ⊎ (length history ≤ end) → HaveOne passes end →
       IsFirstStrange history passes place
   first_misplaced passes place end e reaches below =
       let l = least_is (all_misplaced passes) place e in
@@ -304,7 +304,7 @@ module _ (history : List Entry) where
       before (inr h) other lt w = omega arith
 
   -- nothing misplaced
-  pub none_strange : (passes : List Slips) → least None (all_misplaced passes) ≡ None → HaveOne passes (length history) → IsOneHistory history passes
+  pub none_strange : (passes : List Slips) → smallest None (all_misplaced passes) ≡ None → HaveOne passes (length history) → IsOneHistory history passes
   none_strange passes e below place = no_strange passes place (below place) (least_none (all_misplaced passes) e place)
 
 -- ---- counts
@@ -376,21 +376,21 @@ parted place slips rising i j d le lt e = by_order (cases_lt i j)
 -- ---- steps of the walks
 
 pub passes_more : (history : List Entry) (first : Option ℕ) (passes : List Slips) (i : ℕ) (d : Slips) → i < length passes →
-    least (least first (misplaced history None (get_or passes i d))) (flat_map (misplaced history None) (drop (i + 1) passes))
-    ≡ least first (flat_map (misplaced history None) (drop i passes))
+    smallest (smallest first (misplaced history None (get_or passes i d))) (flat_map (misplaced history None) (drop (i + 1) passes))
+    ≡ smallest first (flat_map (misplaced history None) (drop i passes))
 passes_more history first passes i d lt =
-    sym (at_drop_more (λ rest. least first (flat_map (misplaced history None) rest)) passes i d lt
-    ∙ least-append first (misplaced history None (get_or passes i d)) (flat_map (misplaced history None) (drop (i + 1) passes)))
+    sym (at_drop_more (λ rest. smallest first (flat_map (misplaced history None) rest)) passes i d lt
+    ∙ smallest-append first (misplaced history None (get_or passes i d)) (flat_map (misplaced history None) (drop (i + 1) passes)))
 
 -- ---- the walk over the places
 
 -- below the end nothing is misplaced
-pub before_end : (found : Option ℕ) (count place end : ℕ) (wrong : List ℕ) → least None wrong ≡ found → end ≡ option_map_or (λ p. min p count) found count → place < end →
+pub before_end : (found : Option ℕ) (count place end : ℕ) (wrong : List ℕ) → smallest None wrong ≡ found → end ≡ option_map_or (λ p. min p count) found count → place < end →
     (place < count) × ((other : ℕ) → In other wrong → place < other)
 before_end None count place end wrong e f lt = (omega (arith, f), λ other h. absurd (least_none wrong e other h))
 before_end (Some p) count place end wrong e f lt = (omega (arith, f), λ other h. omega (arith, f, (least_is wrong p e).1 other h))
 
-pub walked : (history : List Entry) (passes : List Slips) (found : Option ℕ) (end : ℕ) → least None (all_misplaced history passes) ≡ found →
+pub walked : (history : List Entry) (passes : List Slips) (found : Option ℕ) (end : ℕ) → smallest None (all_misplaced history passes) ≡ found →
     end ≡ option_map_or (λ p. min p (length history)) found (length history) → HaveOne history passes end →
     IfSome found (λ place. IsFirstStrange history passes place) × IfNone found (IsOneHistory history passes)
 walked history passes None end e f below = (tt, none_strange history passes e (subst (λ n. HaveOne history passes n) f below))

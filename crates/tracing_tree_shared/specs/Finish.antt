@@ -76,7 +76,7 @@ greater (Some greatest) place = Some (max greatest place)
 -- the smallest place so far
 abbrev pub lesser : Option ℕ → ℕ → Option ℕ
 lesser None place = Some place
-lesser (Some least) place = Some (min least place)
+lesser (Some smallest) place = Some (min smallest place)
 
 -- another's receipt, or one out of order
 abbrev pub is_misplaced : List Entry → Option ℕ → Slip → Bool
@@ -90,9 +90,9 @@ misplaced history greatest (slip ∷ slips) =
     ++ misplaced history (greater greatest slip.place) slips
 
 -- the smallest of these places, and of one that was found before
-abbrev pub least : Option ℕ → List ℕ → Option ℕ
-least found [] = found
-least found (place ∷ places) = least (lesser found place) places
+abbrev pub smallest : Option ℕ → List ℕ → Option ℕ
+smallest found [] = found
+smallest found (place ∷ places) = smallest (lesser found place) places
 
 -- Receipts rise up to a place: of two, the later is for a greater place, unless it is for one
 -- above.

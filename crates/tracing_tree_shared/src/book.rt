@@ -144,7 +144,7 @@ impl<FT: FormatTime> Book<FT> {
             });
         };
         let place = self.history.len();
-        match draft.tell(&mut self.layered) {
+        match draft.emit(&mut self.layered) {
             Ok(reply) => {
                 self.history.push_reserved((kept, reply));
                 Ok(Receipt {

@@ -130,7 +130,7 @@ impl Draft {
     }
 
     // Makes the call. The draft keeps it.
-    pub(crate) fn tell<W: Output, FT: FormatTime>(
+    pub(crate) fn emit<W: Output, FT: FormatTime>(
         &self,
         layered: &mut Layered<W, FT>,
     ) -> Result<Reply, Refusal>
@@ -142,10 +142,10 @@ impl Draft {
         match self.call.as_ref() {
             Call::Event(event, context) => layered.call_event(event, context, tail),
             call => {
-                let Ok(told) = call.copied() else {
+                let Ok(emitted) = call.copied() else {
                     return Err(Refusal::Memory);
                 };
-                layered.call(told)
+                layered.call(emitted)
             }
         }
     }

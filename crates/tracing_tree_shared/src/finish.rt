@@ -3,7 +3,7 @@
 ghost use Rattle.std.specs.Prelude.{◌≡◌, ◌≤◌, None, All, IfSome, IfNone, length, min, count_by, flat_map, [], ◌∷◌, if◌then◌else◌, ◌==◌, nat_lt};
 ghost use Rattle.std.specs.Option.{option_map_or};
 ghost use Rattle.tracing_tree_shared.specs.History.{slips_at, IsFirstStrange, IsOneHistory};
-ghost use Rattle.tracing_tree_shared.specs.Finish.{keeps_slip, is_late, is_misplaced, greater, lesser, misplaced, least, RisesUpTo, IsReplay};
+ghost use Rattle.tracing_tree_shared.specs.Finish.{keeps_slip, is_late, is_misplaced, greater, lesser, misplaced, smallest, RisesUpTo, IsReplay};
 
 use crate::book::{Book, Receipt};
 use crate::pass::Pass;
@@ -90,7 +90,7 @@ fn up_to(place: Option<usize>, count: usize) -> usize
 // Returns the least place of a receipt that isn't in the history, or is in the wrong order in its
 // pass.
 fn first_misplaced<L: Ledger>(history: &[(Call, Reply)], passes: &[Pass<L>]) -> Option<usize>
-    ensures { result ≡ least None (flat_map (misplaced history.now None) passes.now) }
+    ensures { result ≡ smallest None (flat_map (misplaced history.now None) passes.now) }
 {
     let mut first = None;
     for pass in passes {
@@ -105,7 +105,7 @@ fn first_in_pass(
     receipts: &[Receipt],
     found: Option<usize>,
 ) -> Option<usize>
-    ensures { result ≡ least found (misplaced history.now None receipts.now) }
+    ensures { result ≡ smallest found (misplaced history.now None receipts.now) }
 {
     let mut first = found;
     let mut greatest = None;
@@ -123,7 +123,7 @@ fn first_with(
     greatest: Option<usize>,
     receipt: &Receipt,
 ) -> Option<usize>
-    ensures { result ≡ least found
+    ensures { result ≡ smallest found
         (if is_misplaced history.now greatest receipt.now then receipt.now.place ∷ [] else []) }
 {
     if is_late(greatest, receipt.place()) || !keeps(history, receipt) {
@@ -151,11 +151,11 @@ fn greater(greatest: Option<usize>, place: usize) -> Option<usize>
     }
 }
 
-fn lesser(least: Option<usize>, place: usize) -> Option<usize>
-    ensures { result ≡ lesser least place }
+fn lesser(smallest: Option<usize>, place: usize) -> Option<usize>
+    ensures { result ≡ lesser smallest place }
 {
-    match least {
-        Some(least) => Some(least.min(place)),
+    match smallest {
+        Some(smallest) => Some(smallest.min(place)),
         None => Some(place),
     }
 }

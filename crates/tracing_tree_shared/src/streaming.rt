@@ -75,7 +75,7 @@ impl<W: Output, FT: FormatTime> Counted<W, FT> {
                 cause: Refusal::Failed,
             });
         }
-        match draft.tell(&mut self.layered) {
+        match draft.emit(&mut self.layered) {
             Ok(reply) => {
                 // Dropped as one value, so that the proof needn't follow each of its parts.
                 drop(draft);

@@ -10,7 +10,7 @@ use Rattle.tracing_tree_spans.specs.Registry.Ids.{same_id}
 use Rattle.tracing_tree_spans.specs.Registry.Spans.{Span, KeptSpan}
 use Rattle.tracing_tree_spans.specs.Registry.Forest.{has_id, is_child_of, children_of, path_of, path_of_any, goes_after, closing_of}
 use Rattle.tracing_tree_spans.specs.Registry.Registered.{IsRising, IsKept, alone, going_after, lacks_others}
-use Rattle.tracing_tree_spans.specs.Registry.Kept.{kept_at, spans_of, IsTied}
+use Rattle.tracing_tree_spans.specs.Registry.Kept.{kept_at, spans_of, CountsChildren}
 use Rattle.tracing_tree_base.specs.declared.context.Id.{Id}
 use Rattle.tracing_tree_spans.proofs.ForestLaws.{same_id-eq}
 use Rattle.tracing_tree_spans.proofs.PathLaws.{path_of-step}
@@ -127,14 +127,12 @@ pub record IsKeptAt (nodes : List KeptSpan) (i : Id) (node : KeptSpan) : Type 0 
   pub here : kept_at nodes i ≡ Some node
   pub found : find (has_id i) (spans_of nodes) ≡ Some node.span
   pub count : node.children ≡ length (children_of (alone (spans_of nodes)) i)
-  pub path : node.path ≡ path_of (alone (spans_of nodes)) i
 
-pub kept-found : (nodes : List KeptSpan) (i : Id) (node : KeptSpan) → IsTied nodes → kept_at nodes i ≡ Some node → IsKeptAt nodes i node
-kept-found nodes i node tied here = record {
+pub kept-found : (nodes : List KeptSpan) (i : Id) (node : KeptSpan) → CountsChildren nodes → kept_at nodes i ≡ Some node → IsKeptAt nodes i node
+kept-found nodes i node counts here = record {
   here = here;
   found = found-span nodes i ∙ ap (λ o. option_map (λ (n : KeptSpan). n.span) o) here;
-  count = tied.children i node here;
-  path = tied.paths i node here;
+  count = counts i node here;
 }
 
 -- one less is 0 if there was one
@@ -150,9 +148,10 @@ first-test nodes i node h some =
     ap (λ b. (node.span.handles - 1 == 0) && b) lacks ∙ ap (λ b. b && (node.children == 0)) (none-left node.span.handles some)
 
 -- if only one handle keeps a span, and no child, it closes, and then what closes above it
-pub part-begins : (nodes : List KeptSpan) (i : Id) (node : KeptSpan) → IsKept (spans_of nodes) None → IsKeptAt nodes i node →
-    0 < node.span.handles → ((node.span.handles == 1) && (node.children == 0)) ≡ true → HasClosed (spans_of nodes) i (length node.path) 1 node.span.parent
-part-begins nodes i node kept h some alone_there =
+pub part-begins : (nodes : List KeptSpan) (i : Id) (node : KeptSpan) (path : List Id) → IsKept (spans_of nodes) None → IsKeptAt nodes i node →
+    path ≡ path_of (alone (spans_of nodes)) i → 0 < node.span.handles → ((node.span.handles == 1) && (node.children == 0)) ≡ true →
+    HasClosed (spans_of nodes) i (length path) 1 node.span.parent
+part-begins nodes i node path kept h whole some alone_there =
     let spans : List Span = spans_of nodes in
     let goes = first-test nodes i node h some ∙ alone_there in
     record {
@@ -164,7 +163,7 @@ part-begins nodes i node kept h some alone_there =
       counted = refl;
       closes = sym (closing-first (alone spans) kept.0 i node.span h.found
           ∙ ap (λ b. if b then i ∷ going_after (alone spans) (Some i) (way_up (alone spans) node.span.parent) else []) goes);
-      bounded = let n = ap (λ (ids : List Id). length ids) (h.path ∙ path_of-step (alone spans) (as_forest (alone spans) kept.0) i node.span h.found) in
+      bounded = let n = ap (λ (ids : List Id). length ids) (whole ∙ path_of-step (alone spans) (as_forest (alone spans) kept.0) i node.span h.found) in
           let sum = length-append (path_of_any (alone spans) node.span.parent) (i ∷ []) in omega (arith, n, sum);
     }
 
@@ -214,20 +213,20 @@ part-more nodes i a node whole count o kept h e one closed =
     }
 
 -- what closes is the end of the path
-part-end : (nodes : List KeptSpan) (i : Id) (node : KeptSpan) (going : List Id) → IsKept (spans_of nodes) None → IsKeptAt nodes i node →
-    going ≡ closing_of (alone (spans_of nodes)) i → reverse (drop (length node.path - length going) node.path) ≡ going
-part-end nodes i node going kept h e =
+part-end : (nodes : List KeptSpan) (i : Id) (path going : List Id) → IsKept (spans_of nodes) None → path ≡ path_of (alone (spans_of nodes)) i →
+    going ≡ closing_of (alone (spans_of nodes)) i → reverse (drop (length path - length going) path) ≡ going
+part-end nodes i path going kept whole e =
     let spans : List Span = spans_of nodes in
     let longest = closing_of-longest (alone spans) i in
-    let way : reverse node.path ≡ going ++ longest.rest =
-    ap (λ (ids : List Id). reverse ids) h.path ∙ sym (way-changed one_less less-same i (alone spans) (Some i))
+    let way : reverse path ≡ going ++ longest.rest =
+    ap (λ (ids : List Id). reverse ids) whole ∙ sym (way-changed one_less less-same i (alone spans) (Some i))
     ∙ longest.whole ∙ ap (λ ids. ids ++ longest.rest) (sym e) in
-    let path : node.path ≡ reverse longest.rest ++ reverse going =
-    sym (reverse-reverse node.path) ∙ ap (λ (ids : List Id). reverse ids) way ∙ reverse-append going longest.rest in
-    let n = ap (λ (ids : List Id). length ids) path ∙ length-append (reverse longest.rest) (reverse going) in
-    let same : length node.path - length going ≡ length (reverse longest.rest) = omega (arith, n, length-reverse going) in
-    ap (λ k. reverse (drop k node.path)) same
-    ∙ ap (λ (ids : List Id). reverse (drop (length (reverse longest.rest)) ids)) path
+    let parted : path ≡ reverse longest.rest ++ reverse going =
+    sym (reverse-reverse path) ∙ ap (λ (ids : List Id). reverse ids) way ∙ reverse-append going longest.rest in
+    let n = ap (λ (ids : List Id). length ids) parted ∙ length-append (reverse longest.rest) (reverse going) in
+    let same : length path - length going ≡ length (reverse longest.rest) = omega (arith, n, length-reverse going) in
+    ap (λ k. reverse (drop k path)) same
+    ∙ ap (λ (ids : List Id). reverse (drop (length (reverse longest.rest)) ids)) parted
     ∙ ap (λ (ids : List Id). reverse ids) (drop-front (reverse longest.rest) (reverse going)) ∙ reverse-reverse going
   where
     length-reverse : (ids : List Id) → length (reverse ids) ≡ length ids
@@ -240,33 +239,16 @@ part-end nodes i node going kept h e =
     drop-front [] back = refl
     drop-front (x ∷ front) back = drop-front front back
 
--- it ends when nothing more closes
-pub part-ends : (nodes : List KeptSpan) (i : Id) (node : KeptSpan) (count : ℕ) (o : Option Id) → IsKept (spans_of nodes) None → IsKeptAt nodes i node →
-    (closed : HasClosed (spans_of nodes) i (length node.path) count o) → going_after (alone (spans_of nodes)) (Some closed.last) (way_up (alone (spans_of nodes)) o) ≡ [] →
-    reverse (drop (length node.path - count) node.path) ≡ closing_of (alone (spans_of nodes)) i
-part-ends nodes i node count o kept h closed none =
+-- it ends when nothing more closes, and the code cuts it off
+pub part-cut : (nodes : List KeptSpan) (i : Id) (path : List Id) (count : ℕ) (o : Option Id) → IsKept (spans_of nodes) None →
+    path ≡ path_of (alone (spans_of nodes)) i → (closed : HasClosed (spans_of nodes) i (length path) count o) →
+    going_after (alone (spans_of nodes)) (Some closed.last) (way_up (alone (spans_of nodes)) o) ≡ [] →
+    reverse (take (length path - (length path - count)) (drop (length path - count) path)) ≡ closing_of (alone (spans_of nodes)) i
+part-cut nodes i path count o kept whole closed none =
     let going : closed.going ≡ closing_of (alone (spans_of nodes)) i =
     sym (append-nil closed.going) ∙ ap (λ xs. closed.going ++ xs) (sym none) ∙ closed.closes in
-    ap (λ n. reverse (drop (length node.path - n) node.path)) (sym closed.counted) ∙ part-end nodes i node closed.going kept h going ∙ going
-
--- as the code cuts it off
-pub part-cut : (nodes : List KeptSpan) (i : Id) (node : KeptSpan) (slice : List Id) (count : ℕ) (o : Option Id) → IsKept (spans_of nodes) None →
-    IsKeptAt nodes i node → slice ≡ node.path → (closed : HasClosed (spans_of nodes) i (length slice) count o) →
-    going_after (alone (spans_of nodes)) (Some closed.last) (way_up (alone (spans_of nodes)) o) ≡ [] →
-    reverse (take (length slice - (length slice - count)) (drop (length slice - count) slice)) ≡ closing_of (alone (spans_of nodes)) i
-part-cut nodes i node slice count o kept h same closed none =
-    let count' : HasClosed (spans_of nodes) i (length node.path) count o = record {
-      going = closed.going;
-      last = closed.last;
-      below = closed.below;
-      found = closed.found;
-      parent = closed.parent;
-      counted = closed.counted;
-      closes = closed.closes;
-      bounded = closed.bounded ∙ ap (λ (ids : List Id). length ids) same;
-    } in
-    ap (λ (ids : List Id). reverse ids) (take_rest slice (length slice - count))
-    ∙ ap (λ (ids : List Id). reverse (drop (length ids - count) ids)) same ∙ part-ends nodes i node count o kept h count' none
+    ap (λ (ids : List Id). reverse ids) (take_rest path (length path - count))
+    ∙ ap (λ n. reverse (drop (length path - n) path)) (sym closed.counted) ∙ part-end nodes i path closed.going kept whole going ∙ going
 
 -- and if nothing closes
 pub part-empty : (slice closing : List Id) → closing ≡ [] → reverse (take (length slice - length slice) (drop (length slice) slice)) ≡ closing

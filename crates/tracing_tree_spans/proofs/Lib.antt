@@ -12,6 +12,7 @@ pub mod NewestLaws
 pub mod CommonLaws
 pub mod SlotLists
 pub mod KeptLists
+pub mod BranchLaws
 pub mod Ties
 pub mod ClosingParts
 pub mod Registers

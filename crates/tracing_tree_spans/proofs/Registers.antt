@@ -12,10 +12,13 @@ use Rattle.std.proofs.lemmas.Bool.Decides.{nat_tests}
 use Rattle.std.proofs.lemmas.List.{map-append, length-reverse, reverse-reverse}
 use Rattle.std.proofs.lemmas.List.Folds.{find-append}
 use Rattle.tracing_tree_spans.specs.Registry.Spans.{Span, KeptSpan, handle_less}
-use Rattle.tracing_tree_spans.specs.Registry.Forest.{Forest, has_id, is_child_of, span_at, handles_of, unless_live, unless_handle, has_all_handles, any_unless_live, update_span, closing_of, children_of, path_of, IsPathIfLive, IsClosing, IsGrownForest}
+use Rattle.tracing_tree_spans.specs.Registry.Forest.{Forest, has_id, is_child_of, span_at, handles_of, unless_live, unless_handle, has_all_handles, any_unless_live, update_span, closing_of, children_of, path_of, path_of_any, IsPathIfLive, IsClosing, IsGrownForest}
 use Rattle.tracing_tree_spans.specs.Registry.Registered.{IsKept, IsNewest, alone, going_after, lacks_others}
-use Rattle.tracing_tree_spans.specs.Registry.Kept.{keeps_id, kept_at, spans_of, change_kept, with_child, kept_path, AreBelow, IsTied}
+use Rattle.tracing_tree_spans.specs.Registry.Kept.{keeps_id, kept_at, spans_of, change_kept, with_child, AreBelow, CountsChildren, IsTied}
+use Rattle.tracing_tree_spans.specs.Registry.Branches.{path_at}
 use Rattle.tracing_tree_base.specs.declared.context.Id.{Id}
+use Rattle.tracing_tree_spans.specs.declared.registry.branches.Branch.{Branch}
+use Rattle.tracing_tree_spans.specs.declared.registry.path.SpanPath.{SpanPath}
 use Rattle.tracing_tree_spans.proofs.GrownForests.{as_forest}
 use Rattle.tracing_tree_spans.proofs.ForestLaws.{is_some-find}
 use Rattle.tracing_tree_spans.proofs.PathLaws.{path_of-none, path_of-whole}
@@ -89,9 +92,9 @@ kept-update change u h nodes new next i kept e =
       below-changed (changed u i) (changed-same u i h.same) 18_446_744_073_709_551_616 (spans_of nodes) ∙ kept.2,
     )
 
-pub tied-update : (change : KeptSpan → KeptSpan) (u : Span → Span) → KeepsTies change u → (nodes new : List KeptSpan) (i : Id) →
-    IsTied nodes → new ≡ change_kept change i nodes → IsTied new
-tied-update change u h nodes new i tied e = subst IsTied (sym e) (tied-change change u h i nodes tied)
+pub tied-update : (branches : List Branch) (change : KeptSpan → KeptSpan) (u : Span → Span) → KeepsTies change u → (nodes new : List KeptSpan) (i : Id) →
+    IsTied branches nodes → new ≡ change_kept change i nodes → IsTied branches new
+tied-update branches change u h nodes new i tied e = subst (IsTied branches) (sym e) (tied-change branches change u h i nodes tied)
 
 -- and its forest is the one with this change
 pub forest-update : (change : KeptSpan → KeptSpan) (u : Span → Span) → ((n : KeptSpan) → (change n).span ≡ u n.span) → (nodes new : List KeptSpan)
@@ -122,18 +125,21 @@ below-next nodes next i kept e =
     below (x ∷ xs) n = ap (λ b. nat_lt x.span.id.0 n && b) (below xs n)
 
 -- the spans after a new one
-pub spans-new : (nodes new : List KeptSpan) (node : KeptSpan) (o : Option Id) → new ≡ with_child o (nodes ++ node ∷ []) →
+pub spans-new : (nodes same new : List KeptSpan) (node : KeptSpan) (o : Option Id) → same ≡ nodes → new ≡ with_child o (same ++ node ∷ []) →
     spans_of new ≡ spans_of nodes ++ node.span ∷ []
-spans-new nodes new node o e = ap spans_of e ∙ spans-child o (nodes ++ node ∷ []) ∙ map-append (λ (n : KeptSpan). n.span) nodes (node ∷ [])
+spans-new nodes same new node o e e' =
+    ap spans_of e' ∙ spans-child o (same ++ node ∷ []) ∙ map-append (λ (n : KeptSpan). n.span) same (node ∷ [])
+    ∙ ap (λ xs. spans_of xs ++ node.span ∷ []) e
 
 -- each is kept with its path and its children
-pub tied-new : (nodes new : List KeptSpan) (next : Option Id) (i : Id) (node : KeptSpan) → IsKept (spans_of nodes) next → IsTied nodes → next ≡ Some i →
-    node.span.id ≡ i → any_unless_live (alone (spans_of nodes)) node.span.parent ≡ None → node.path ≡ kept_path nodes node.span.parent ++ node.span.id ∷ [] →
-    node.children ≡ 0 → new ≡ with_child node.span.parent (nodes ++ node ∷ []) → IsTied new
-tied-new nodes new next i node kept tied here same found path none e =
+pub tied-new : (branches : List Branch) (nodes new : List KeptSpan) (next : Option Id) (i : Id) (node : KeptSpan) → IsKept (spans_of nodes) next → IsTied branches nodes → next ≡ Some i →
+    node.span.id ≡ i → any_unless_live (alone (spans_of nodes)) node.span.parent ≡ None →
+    path_at branches node.path ≡ Some (path_of_any (alone (spans_of nodes)) node.span.parent ++ node.span.id ∷ []) →
+    node.children ≡ 0 → new ≡ with_child node.span.parent (nodes ++ node ∷ []) → IsTied branches new
+tied-new branches nodes new next i node kept tied here same found path none e =
     let fresh : list_any (has_id node.span.id) (spans_of nodes) ≡ false =
     ap (λ j. list_any (has_id j) (spans_of nodes)) same ∙ fresh-next (spans_of nodes) next i kept here in
-    subst IsTied (sym e) (tied-push nodes node (kept-none (spans_of nodes) next kept).0 tied (record {
+    subst (IsTied branches) (sym e) (tied-push branches nodes node (kept-none (spans_of nodes) next kept).0 tied (record {
       fresh = fresh;
       parent = live node.span.parent (parent-live (spans_of nodes) node.span.parent found);
       path = path;
@@ -155,15 +161,15 @@ part-le p (x ∷ nodes) = by (part-le p nodes) (p x.span)
     by ih false = omega arith
 
 -- its parent's children can be counted further
-pub child-fits : (nodes new : List KeptSpan) (node : KeptSpan) (p : Id) → IsTied nodes → node.children ≡ 0 → new ≡ nodes ++ node ∷ [] →
+pub child-fits : (nodes new : List KeptSpan) (node : KeptSpan) (p : Id) → CountsChildren nodes → node.children ≡ 0 → new ≡ nodes ++ node ∷ [] →
     length new < 9_223_372_036_854_775_808 → IfSome (kept_at new p) (λ k. k.children < 18_446_744_073_709_551_615)
-child-fits nodes new node p tied none e few =
+child-fits nodes new node p counts none e few =
     subst (λ o. IfSome o (λ k. k.children < 18_446_744_073_709_551_615))
     (sym (ap (λ xs. kept_at xs p) e ∙ find-append (keeps_id p) nodes (node ∷ []))) (by (kept_at nodes p) refl)
   where
     by : (o : Option KeptSpan) → kept_at nodes p ≡ o → IfSome (option_or o (kept_at (node ∷ []) p)) (λ k. k.children < 18_446_744_073_709_551_615)
     by (Some k) h =
-        let count = tied.children p k h in
+        let count = counts p k h in
         let most = part-le (is_child_of p) nodes in
         let n = ap (λ (xs : List KeptSpan). length xs) e ∙ length-append nodes (node ∷ []) in
         let fits : k.children < 18_446_744_073_709_551_615 = omega (arith, count, most, n, few) in fits
@@ -245,10 +251,10 @@ pub kept-attempt : {X E : Type 0} (change : KeptSpan → KeptSpan) (u : Span →
 kept-attempt change u h (Ok x) nodes new next i kept ok err = kept-update change u h nodes new next i kept ok
 kept-attempt change u h (Err e) nodes new next i kept ok err = subst (λ xs. IsKept (spans_of xs) next) (sym err) kept
 
-pub tied-attempt : {X E : Type 0} (change : KeptSpan → KeptSpan) (u : Span → Span) → KeepsTies change u → (r : Result X E) (nodes new : List KeptSpan)
-    (i : Id) → IsTied nodes → OnOk r (new ≡ change_kept change i nodes) → OnErr r (new ≡ nodes) → IsTied new
-tied-attempt change u h (Ok x) nodes new i tied ok err = tied-update change u h nodes new i tied ok
-tied-attempt change u h (Err e) nodes new i tied ok err = subst IsTied (sym err) tied
+pub tied-attempt : {X E : Type 0} (branches : List Branch) (change : KeptSpan → KeptSpan) (u : Span → Span) → KeepsTies change u → (r : Result X E) (nodes new : List KeptSpan)
+    (i : Id) → IsTied branches nodes → OnOk r (new ≡ change_kept change i nodes) → OnErr r (new ≡ nodes) → IsTied branches new
+tied-attempt branches change u h (Ok x) nodes new i tied ok err = tied-update branches change u h nodes new i tied ok
+tied-attempt branches change u h (Err e) nodes new i tied ok err = subst (IsTied branches) (sym err) tied
 
 pub forest-attempt : {X E : Type 0} (change : KeptSpan → KeptSpan) (u : Span → Span) → ((n : KeptSpan) → (change n).span ≡ u n.span) → (r : Result X E)
     (nodes new : List KeptSpan) (next : Option Id) (now : Forest) (i : Id) → forest_of (spans_of nodes) next ≡ now →
@@ -271,6 +277,19 @@ error-live (Ok x) now i s h = tt
 error-live (Err e) now i s h = λ none. (let found : Some s ≡ None = sym h ∙ none in cc)
 
 -- ---- paths
+
+-- the stored path of a span is its path
+pub stored-path : (branches : List Branch) (nodes : List KeptSpan) → IsTied branches nodes → (i : Id) (node : KeptSpan) → kept_at nodes i ≡ Some node →
+    (path : SpanPath) → path ≡ node.path → (slice : List Id) → ((ids : List Id) → path_at branches path ≡ Some ids → slice ≡ ids) →
+    slice ≡ path_of (alone (spans_of nodes)) i
+stored-path branches nodes tied i node here path same slice reads =
+    reads (path_of (alone (spans_of nodes)) i) (ap (path_at branches) same ∙ tied.paths i node here)
+
+pub stored-whole : (branches : List Branch) (nodes : List KeptSpan) (next : Option Id) (now : Forest) → forest_of (spans_of nodes) next ≡ now → IsTied branches nodes →
+    (i : Id) (node : KeptSpan) → kept_at nodes i ≡ Some node → (path : SpanPath) → path ≡ node.path → (slice : List Id) →
+    ((ids : List Id) → path_at branches path ≡ Some ids → slice ≡ ids) → slice ≡ path_of now i
+stored-whole branches nodes next now view tied i node here path same slice reads =
+    stored-path branches nodes tied i node here path same slice reads ∙ ap (λ (forest : Forest). path_of forest i) view
 
 -- and the path of an id that isn't live is empty
 pub path-gone : (now : Forest) (i : Id) → span_at now i ≡ None → path_of now i ≡ []

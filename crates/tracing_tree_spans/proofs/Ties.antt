@@ -1,7 +1,7 @@
 -- Each span is kept with its path and with the count of its children, while spans change, are added
 -- and are removed.
 use Rattle.std.proofs.Common.{◌≡◌, ℕ, ◌+◌, ◌-◌, ◌<◌, nat_lt, Bool, true, false, not, List, [], ◌∷◌, ◌++◌, length, map, reverse, find, filter, Option, Some, None, IfSome, if◌then◌else◌, arith, refl, sym, ap, ◌∙◌, subst, length-append}
-use Rattle.std.specs.List.{list_any}
+use Rattle.std.specs.List.{list_any, last_or}
 use Rattle.std.specs.Option.{option_map, option_map_or, option_and_then, option_or, is_some}
 use Rattle.std.proofs.lemmas.Bool.{and_parts}
 use Rattle.std.proofs.lemmas.Bool.Decides.{nat_tests}
@@ -13,12 +13,14 @@ use Rattle.tracing_tree_spans.specs.Registry.Ids.{same_id}
 use Rattle.tracing_tree_spans.specs.Registry.Spans.{Span, KeptSpan, child_less}
 use Rattle.tracing_tree_spans.specs.Registry.Forest.{has_id, is_child_of, parent_of, path_of, path_of_any, children_of, IsGrown, IsGrownForest}
 use Rattle.tracing_tree_spans.specs.Registry.Registered.{IsRising, alone}
-use Rattle.tracing_tree_spans.specs.Registry.Kept.{keeps_id, kept_at, spans_of, change_kept, leave_out, with_child, kept_path, IsTied}
+use Rattle.tracing_tree_spans.specs.Registry.Kept.{keeps_id, kept_at, spans_of, change_kept, leave_out, with_child, IsTied}
+use Rattle.tracing_tree_spans.specs.Registry.Branches.{path_at, KeepsPaths, KeepsOthers}
 use Rattle.tracing_tree_base.specs.declared.context.Id.{Id}
-use Rattle.tracing_tree_spans.proofs.ForestLaws.{path_among, path-newest, path-older, is_some-find, same_id-eq}
-use Rattle.tracing_tree_spans.proofs.PathLaws.{path_of-none, path_of-among, path_of_any-among}
+use Rattle.tracing_tree_spans.specs.declared.registry.branches.Branch.{Branch}
+use Rattle.tracing_tree_spans.proofs.ForestLaws.{path_among, path-newest, path-older, is_some-find, same_id-eq, last_or-push}
+use Rattle.tracing_tree_spans.proofs.PathLaws.{path_of-none, path_of-step, path_of-among, path_of_any-among}
 use Rattle.tracing_tree_spans.proofs.RegistryLaws.{IsSame, changed, changed-same, without, any-reverse}
-use Rattle.tracing_tree_spans.proofs.GrownForests.{path_of-mapped}
+use Rattle.tracing_tree_spans.proofs.GrownForests.{as_forest, path_of-mapped}
 use Rattle.tracing_tree_spans.proofs.SpanLists.{all_above}
 use Rattle.tracing_tree_spans.proofs.NewestLaws.{filter-missing, no-child}
 use Rattle.tracing_tree_spans.proofs.ClosingSteps.{path_of-without}
@@ -51,9 +53,9 @@ children-changed u h j (x ∷ spans) =
 pub path_of-changed : (u : Span → Span) → IsSame u → (spans : List Span) (j : Id) → path_of (alone (map u spans)) j ≡ path_of (alone spans) j
 path_of-changed u h spans j = path_of-mapped u h spans None None j
 
-pub tied-change : (change : KeptSpan → KeptSpan) (u : Span → Span) → KeepsTies change u → (i : Id) (nodes : List KeptSpan) → IsTied nodes →
-    IsTied (change_kept change i nodes)
-tied-change change u h i nodes tied = record { paths = paths; children = children }
+pub tied-change : (branches : List Branch) (change : KeptSpan → KeptSpan) (u : Span → Span) → KeepsTies change u → (i : Id) (nodes : List KeptSpan) → IsTied branches nodes →
+    IsTied branches (change_kept change i nodes)
+tied-change branches change u h i nodes tied = record { paths = paths; children = children }
   where
     one : KeptSpan → KeptSpan
     one n = if keeps_id i n then change n else n
@@ -73,12 +75,13 @@ tied-change change u h i nodes tied = record { paths = paths; children = childre
     spans : spans_of (change_kept change i nodes) ≡ map (changed u i) (spans_of nodes)
     spans = spans-changed change u h.spans i nodes
 
-    paths : (j : Id) (node : KeptSpan) → kept_at (change_kept change i nodes) j ≡ Some node → node.path ≡ path_of (alone (spans_of (change_kept change i nodes))) j
+    paths : (j : Id) (node : KeptSpan) → kept_at (change_kept change i nodes) j ≡ Some node →
+        path_at branches node.path ≡ Some (path_of (alone (spans_of (change_kept change i nodes))) j)
     paths j node e =
         let m = found-before (λ n. if keeps_id i n then change n else n) ids nodes j node e in
-        sym (ap (λ (n : KeptSpan). n.path) m.2) ∙ same-path m.0 ∙ tied.paths j m.0 m.1
-        ∙ sym (path_of-changed (changed u i) (changed-same u i h.same) (spans_of nodes) j)
-        ∙ ap (λ xs. path_of (alone xs) j) (sym spans)
+        ap (path_at branches) (sym (ap (λ (n : KeptSpan). n.path) m.2) ∙ same-path m.0) ∙ tied.paths j m.0 m.1
+        ∙ ap (λ (ids : List Id). Some ids) (sym (path_of-changed (changed u i) (changed-same u i h.same) (spans_of nodes) j)
+        ∙ ap (λ xs. path_of (alone xs) j) (sym spans))
 
     children : (j : Id) (node : KeptSpan) → kept_at (change_kept change i nodes) j ≡ Some node →
         node.children ≡ length (children_of (alone (spans_of (change_kept change i nodes))) j)
@@ -88,19 +91,26 @@ tied-change change u h i nodes tied = record { paths = paths; children = childre
         ∙ sym (children-changed (changed u i) (changed-same u i h.same) j (spans_of nodes))
         ∙ ap (λ (xs : List Span). length (children_of (alone xs) j)) (sym spans)
 
--- ---- the path of a parent
+-- ---- stored paths
 
--- a kept path is the path
-pub kept_path-is : (nodes : List KeptSpan) → IsTied nodes → (o : Option Id) →
-    kept_path nodes o ≡ path_of_any (alone (spans_of nodes)) o
-kept_path-is nodes tied None = refl
-kept_path-is nodes tied (Some p) = by (kept_at nodes p) refl
-  where
-    by : (o : Option KeptSpan) → kept_at nodes p ≡ o → option_map_or (λ (node : KeptSpan). node.path) o [] ≡ path_of (alone (spans_of nodes)) p
-    by None e =
-        let gone : find (has_id p) (spans_of nodes) ≡ None = found-span nodes p ∙ ap (λ o. option_map (λ (node : KeptSpan). node.span) o) e in
-        sym (path_of-none (alone (spans_of nodes)) p (ap (λ (o : Option Span). is_some o) gone))
-    by (Some node) e = tied.paths p node e
+-- branches that keep each path serve as well
+pub tied-kept : (branches new : List Branch) (nodes : List KeptSpan) → KeepsPaths branches new → IsTied branches nodes → IsTied new nodes
+tied-kept branches new nodes keeps tied = record {
+  paths = λ j n e. keeps n.path (path_of (alone (spans_of nodes)) j) (tied.paths j n e);
+  children = tied.children;
+}
+
+-- the path of a parent
+pub path-above : (branches : List Branch) (nodes : List KeptSpan) → IsTied branches nodes → (o : Option Id) (node : KeptSpan) →
+    option_and_then (kept_at nodes) o ≡ Some node → path_at branches node.path ≡ Some (path_of_any (alone (spans_of nodes)) o)
+path-above branches nodes tied None node e = absurd cc
+path-above branches nodes tied (Some p) node e = tied.paths p node e
+
+pub no-path-above : (nodes : List KeptSpan) (o : Option Id) → option_and_then (kept_at nodes) o ≡ None → path_of_any (alone (spans_of nodes)) o ≡ []
+no-path-above nodes None e = refl
+no-path-above nodes (Some p) e =
+    let gone : find (has_id p) (spans_of nodes) ≡ None = found-span nodes p ∙ ap (λ o. option_map (λ (node : KeptSpan). node.span) o) e in
+    path_of-none (alone (spans_of nodes)) p (ap (λ (o : Option Span). is_some o) gone)
 
 -- ---- a span is added
 
@@ -150,17 +160,17 @@ children-none spans j formed fresh =
     ap (λ (xs : List Span). length xs) (filter-missing (is_child_of j) spans none)
 
 -- what is known of a new span
-pub record IsNext (nodes : List KeptSpan) (node : KeptSpan) : Type 0 where
+pub record IsNext (branches : List Branch) (nodes : List KeptSpan) (node : KeptSpan) : Type 0 where
   pub fresh : list_any (has_id node.span.id) (spans_of nodes) ≡ false
   pub parent : option_map_or (λ above. list_any (has_id above) (spans_of nodes)) node.span.parent true ≡ true
-  pub path : node.path ≡ kept_path nodes node.span.parent ++ node.span.id ∷ []
+  pub path : path_at branches node.path ≡ Some (path_of_any (alone (spans_of nodes)) node.span.parent ++ node.span.id ∷ [])
   pub childless : node.children ≡ 0
 
-pub tied-push : (nodes : List KeptSpan) (node : KeptSpan) → IsGrownForest (alone (spans_of nodes)) → IsTied nodes → IsNext nodes node →
-    IsTied (with_child node.span.parent (nodes ++ node ∷ []))
-tied-push nodes node formed tied new = record {
+pub tied-push : (branches : List Branch) (nodes : List KeptSpan) (node : KeptSpan) → IsGrownForest (alone (spans_of nodes)) → IsTied branches nodes → IsNext branches nodes node →
+    IsTied branches (with_child node.span.parent (nodes ++ node ∷ []))
+tied-push branches nodes node formed tied new = record {
   paths = λ j n e. let m = counted-more node.span.parent (nodes ++ node ∷ []) j n e in
-      m.1.path ∙ path j m.0 m.1.before ∙ ap (λ xs. path_of (alone xs) j) (sym spans);
+      ap (path_at branches) m.1.path ∙ path j m.0 m.1.before ∙ ap (λ xs. Some (path_of (alone xs) j)) (sym spans);
   children = λ j n e. let m = counted-more node.span.parent (nodes ++ node ∷ []) j n e in
       m.2 ∙ count j m.0 m.1.before ∙ ap (λ (xs : List Span). length (children_of (alone xs) j)) (sym spans);
 }
@@ -192,19 +202,19 @@ tied-push nodes node formed tied new = record {
         by false g = absurd (let none : None ≡ Some m = subst (λ b. (if b then Some node else None) ≡ Some m) g e in cc)
 
     path-by : (j : Id) (m : KeptSpan) (o : Option KeptSpan) → kept_at nodes j ≡ o → option_or o (kept_at (node ∷ []) j) ≡ Some m →
-        m.path ≡ path_of (alone (spans_of nodes ++ node.span ∷ [])) j
+        path_at branches m.path ≡ Some (path_of (alone (spans_of nodes ++ node.span ∷ [])) j)
     path-by j m (Some k) e h =
         let same : k ≡ m = same_Some k m h in
-        sym (ap (λ (n : KeptSpan). n.path) same) ∙ tied.paths j k e ∙ sym (path_of-more (spans_of nodes) node.span grown j (old j k e))
+        sym (ap (λ (n : KeptSpan). path_at branches n.path) same) ∙ tied.paths j k e
+        ∙ ap (λ (ids : List Id). Some ids) (sym (path_of-more (spans_of nodes) node.span grown j (old j k e)))
     path-by j m None e h =
         let here = own j m h in
         let id : node.span.id ≡ j = same_id-eq node.span.id j here.0 in
-        sym (ap (λ (n : KeptSpan). n.path) here.1) ∙ new.path
-        ∙ ap (λ path. path ++ node.span.id ∷ []) (kept_path-is nodes tied node.span.parent)
-        ∙ ap (λ k. path_of_any (alone (spans_of nodes)) node.span.parent ++ k ∷ []) id
-        ∙ sym (path_of-new (spans_of nodes) node.span grown j here.0)
+        sym (ap (λ (n : KeptSpan). path_at branches n.path) here.1) ∙ new.path
+        ∙ ap (λ (ids : List Id). Some ids) (ap (λ k. path_of_any (alone (spans_of nodes)) node.span.parent ++ k ∷ []) id
+        ∙ sym (path_of-new (spans_of nodes) node.span grown j here.0))
 
-    path : (j : Id) (m : KeptSpan) → kept_at (nodes ++ node ∷ []) j ≡ Some m → m.path ≡ path_of (alone (spans_of nodes ++ node.span ∷ [])) j
+    path : (j : Id) (m : KeptSpan) → kept_at (nodes ++ node ∷ []) j ≡ Some m → path_at branches m.path ≡ Some (path_of (alone (spans_of nodes ++ node.span ∷ [])) j)
     path j m e = path-by j m (kept_at nodes j) refl (found j m e)
 
     count-by : (j : Id) (m : KeptSpan) (o : Option KeptSpan) → kept_at nodes j ≡ o → option_or o (kept_at (node ∷ []) j) ≡ Some m →
@@ -263,13 +273,28 @@ children-without i (x ∷ spans) s rising h j = by (λ k. children-without i spa
         rw e (more (is_child_of j x) (filter (is_child_of j) spans) (filter (is_child_of j) (without i spans)) (times j s.parent)
         (ih (subst (λ b. (if b then Some x else find (has_id i) spans) ≡ Some s) e h)))
 
-pub tied-remove : (nodes : List KeptSpan) (i : Id) (node : KeptSpan) → IsGrown (reverse (spans_of nodes)) → IsRising (spans_of nodes) → IsTied nodes → kept_at nodes i ≡ Some node →
-    list_any (is_child_of i) (spans_of nodes) ≡ false → IsTied (without_child node.span.parent (leave_out i nodes))
-tied-remove nodes i node grown rising tied here childless = record {
+-- two lists with one end have one last element
+same-last : (xs ys : List Id) (i j : Id) → xs ++ i ∷ [] ≡ ys ++ j ∷ [] → i ≡ j
+same-last xs ys i j e = same_Some i j (sym (last_or-push None xs i) ∙ ap (last_or None) e ∙ last_or-push None ys j)
+
+-- so two live spans with one path are one span
+one-span : (spans : List Span) → IsGrown (reverse spans) → (i j : Id) (s t : Span) → find (has_id i) spans ≡ Some s → find (has_id j) spans ≡ Some t →
+    path_of (alone spans) i ≡ path_of (alone spans) j → i ≡ j
+one-span spans grown i j s t here there e =
+    let formed = as_forest (alone spans) (record { grown = grown; below_next = refl }) in
+    same-last (path_of_any (alone spans) s.parent) (path_of_any (alone spans) t.parent) i j
+    (sym (path_of-step (alone spans) formed i s here) ∙ e ∙ path_of-step (alone spans) formed j t there)
+
+pub tied-remove : (branches less : List Branch) (nodes : List KeptSpan) (i : Id) (node : KeptSpan) → IsGrown (reverse (spans_of nodes)) → IsRising (spans_of nodes) →
+    IsTied branches nodes → KeepsOthers node.path branches less → kept_at nodes i ≡ Some node →
+    list_any (is_child_of i) (spans_of nodes) ≡ false → IsTied less (without_child node.span.parent (leave_out i nodes))
+tied-remove branches less nodes i node grown rising tied keeps here childless = record {
   paths = λ j n e. let m = counted-less node.span.parent (leave_out i nodes) j n e in
       let there = found-left i nodes j m.0 m.1.before in
-      m.1.path ∙ tied.paths j m.0 there.1 ∙ sym (path_of-without i (spans_of nodes) grown childless j there.0)
-      ∙ ap (λ xs. path_of (alone xs) j) (sym spans);
+      ap (path_at less) m.1.path
+      ∙ keeps m.0.path (path_of (alone (spans_of nodes)) j) (tied.paths j m.0 there.1) (other j m.0 there.0 there.1)
+      ∙ ap (λ (ids : List Id). Some ids) (sym (path_of-without i (spans_of nodes) grown childless j there.0)
+      ∙ ap (λ xs. path_of (alone xs) j) (sym spans));
   children = λ j n e. let m = counted-less node.span.parent (leave_out i nodes) j n e in
       let there = found-left i nodes j m.0 m.1.before in
       let fewer = children-without i (spans_of nodes) node.span rising found j in
@@ -277,11 +302,18 @@ tied-remove nodes i node grown rising tied here childless = record {
       ∙ ap (λ (xs : List Span). length (children_of (alone xs) j)) (sym spans);
 }
   where
-    spans : spans_of (without_child node.span.parent (leave_out i nodes)) ≡ without i (spans_of nodes)
-    spans = spans-childless node.span.parent (leave_out i nodes) ∙ spans-left i nodes
-
     found : find (has_id i) (spans_of nodes) ≡ Some node.span
     found = found-span nodes i ∙ ap (λ o. option_map (λ (n : KeptSpan). n.span) o) here
+
+    other : (j : Id) (m : KeptSpan) → same_id i j ≡ false → kept_at nodes j ≡ Some m → path_at branches node.path ≡ Some (path_of (alone (spans_of nodes)) j) → ⊥
+    other j m apart there e =
+        let same : i ≡ j = one-span (spans_of nodes) grown i j node.span m.span found (found-span nodes j ∙ ap (λ o. option_map (λ (n : KeptSpan). n.span) o) there)
+        (same_Some (path_of (alone (spans_of nodes)) i) (path_of (alone (spans_of nodes)) j) (sym (tied.paths i node here) ∙ e)) in
+        let own : same_id j j ≡ true = grind (arith, nat_tests) in
+        let both : true ≡ false = sym own ∙ subst (λ k. same_id k j ≡ false) same apart in cc
+
+    spans : spans_of (without_child node.span.parent (leave_out i nodes)) ≡ without i (spans_of nodes)
+    spans = spans-childless node.span.parent (leave_out i nodes) ∙ spans-left i nodes
 
 -- the parent of the span that the code removes
 pub parent-read : (nodes : List KeptSpan) (i : Id) (o : Option KeptSpan) → kept_at nodes i ≡ o →
@@ -295,13 +327,13 @@ parent-read nodes i o here =
     by (Some n) = refl
 
 -- an id that isn't live changes nothing
-pub tied-nothing : (nodes new : List KeptSpan) (i : Id) → IsTied nodes → kept_at nodes i ≡ None → new ≡ leave_out i nodes → IsTied new
-tied-nothing nodes new i tied none e = subst IsTied (leave-none i nodes none ∙ sym e) tied
+pub tied-nothing : (branches : List Branch) (nodes new : List KeptSpan) (i : Id) → IsTied branches nodes → kept_at nodes i ≡ None → new ≡ leave_out i nodes → IsTied branches new
+tied-nothing branches nodes new i tied none e = subst (IsTied branches) (leave-none i nodes none ∙ sym e) tied
 
 -- the parent counts the span that was removed
-pub child-counted : (nodes new : List KeptSpan) (i p : Id) (node : KeptSpan) → IsRising (spans_of nodes) → IsTied nodes → kept_at nodes i ≡ Some node →
+pub child-counted : (branches : List Branch) (nodes new : List KeptSpan) (i p : Id) (node : KeptSpan) → IsRising (spans_of nodes) → IsTied branches nodes → kept_at nodes i ≡ Some node →
     node.span.parent ≡ Some p → new ≡ leave_out i nodes → IfSome (kept_at new p) (λ k. 0 < k.children)
-child-counted nodes new i p node rising tied here parent e = by (kept_at new p) refl
+child-counted branches nodes new i p node rising tied here parent e = by (kept_at new p) refl
   where
     found : find (has_id i) (spans_of nodes) ≡ Some node.span
     found = found-span nodes i ∙ ap (λ o. option_map (λ (n : KeptSpan). n.span) o) here
@@ -320,19 +352,21 @@ child-counted nodes new i p node rising tied here parent e = by (kept_at new p) 
         omega (arith, count, fewer, one)
 
 -- a span is removed that counts at its parent
-pub tied-leaf : (nodes left new : List KeptSpan) (i p : Id) (node : KeptSpan) → IsGrown (reverse (spans_of nodes)) → IsRising (spans_of nodes) → IsTied nodes → kept_at nodes i ≡ Some node →
-    list_any (is_child_of i) (spans_of nodes) ≡ false → node.span.parent ≡ Some p → left ≡ leave_out i nodes → new ≡ change_kept child_less p left → IsTied new
-tied-leaf nodes left new i p node grown rising tied here childless parent e e' =
+pub tied-leaf : (branches less : List Branch) (nodes left new : List KeptSpan) (i p : Id) (node : KeptSpan) → IsGrown (reverse (spans_of nodes)) → IsRising (spans_of nodes) →
+    IsTied branches nodes → KeepsOthers node.path branches less → kept_at nodes i ≡ Some node →
+    list_any (is_child_of i) (spans_of nodes) ≡ false → node.span.parent ≡ Some p → left ≡ leave_out i nodes → new ≡ change_kept child_less p left → IsTied less new
+tied-leaf branches less nodes left new i p node grown rising tied keeps here childless parent e e' =
     let whole : new ≡ without_child node.span.parent (leave_out i nodes) =
     e' ∙ ap (change_kept child_less p) e ∙ ap (λ o. without_child o (leave_out i nodes)) (sym parent) in
-    subst IsTied (sym whole) (tied-remove nodes i node grown rising tied here childless)
+    subst (IsTied less) (sym whole) (tied-remove branches less nodes i node grown rising tied keeps here childless)
 
 -- a root is removed
-pub tied-root : (nodes new : List KeptSpan) (i : Id) (node : KeptSpan) → IsGrown (reverse (spans_of nodes)) → IsRising (spans_of nodes) → IsTied nodes → kept_at nodes i ≡ Some node →
-    list_any (is_child_of i) (spans_of nodes) ≡ false → node.span.parent ≡ None → new ≡ leave_out i nodes → IsTied new
-tied-root nodes new i node grown rising tied here childless parent e =
+pub tied-root : (branches less : List Branch) (nodes new : List KeptSpan) (i : Id) (node : KeptSpan) → IsGrown (reverse (spans_of nodes)) → IsRising (spans_of nodes) →
+    IsTied branches nodes → KeepsOthers node.path branches less → kept_at nodes i ≡ Some node →
+    list_any (is_child_of i) (spans_of nodes) ≡ false → node.span.parent ≡ None → new ≡ leave_out i nodes → IsTied less new
+tied-root branches less nodes new i node grown rising tied keeps here childless parent e =
     let whole : new ≡ without_child node.span.parent (leave_out i nodes) = e ∙ ap (λ o. without_child o (leave_out i nodes)) (sym parent) in
-    subst IsTied (sym whole) (tied-remove nodes i node grown rising tied here childless)
+    subst (IsTied less) (sym whole) (tied-remove branches less nodes i node grown rising tied keeps here childless)
 
 -- the spans that are left
 pub spans-leaf : (nodes left new : List KeptSpan) (i p : Id) → left ≡ leave_out i nodes → new ≡ change_kept child_less p left →

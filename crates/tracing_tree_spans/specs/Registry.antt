@@ -7,3 +7,4 @@ pub mod Paths
 pub mod Registered
 pub mod Kept
 pub mod Slots
+pub mod Branches

@@ -3,6 +3,7 @@
 ghost use Rattle.std.specs.Prelude.{◌≡◌};
 ghost use Rattle.tracing_tree_spans.specs.Registry.Forest.{named_parent};
 
+mod branches;
 pub mod lookup;
 pub mod node;
 mod nodes;

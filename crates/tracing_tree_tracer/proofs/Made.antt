@@ -22,12 +22,12 @@ module _ {C : Type 0} (answers : Call → Result Reply Refusal → C → C → T
       subst ByOld is_old (subst ByAnswer is_answer (subst ByCall is_call made))
 
   -- the same at a moment that was reported
-  pub made_at : (tells : Option Moment → Type 0) (call : Moment → Call) (moment : Moment) → tells (Some moment)
+  pub made_at : (reads : Option Moment → Type 0) (call : Moment → Call) (moment : Moment) → reads (Some moment)
       → (given : Call) → given ≡ call moment → (result answer : Result Reply Refusal) → result ≡ answer
       → (inside old new : C) → inside ≡ old → answers given result inside new
-      → MadeAt answers tells call old new answer
-  made_at tells call moment told given is_call result answer is_answer inside old new is_old made =
-      (moment, told, made_as given (call moment) is_call result answer is_answer inside old new is_old made)
+      → MadeAt answers reads call old new answer
+  made_at reads call moment moment_read given is_call result answer is_answer inside old new is_old made =
+      (moment, moment_read, made_as given (call moment) is_call result answer is_answer inside old new is_old made)
 
 -- a method whose call was refused makes no other call
 pub leaves_refused : {C N A : Type 0}
@@ -42,9 +42,9 @@ leaves_refused {A = A} MadeFrom Silent after reply old new refusal result is_ref
     subst ByResult (sym is_refused) (record { made = made; left = left })
 
 -- the span that was closed is the current one
-pub closed_as : {C N : Type 0} (answers : Call → Result Reply Refusal → C → C → Type 0) (tells : N → Option Moment → Type 0) (found : Option Id)
+pub closed_as : {C N : Type 0} (answers : Call → Result Reply Refusal → C → C → Type 0) (reads : N → Option Moment → Type 0) (found : Option Id)
     (id : Id) → found ≡ Some id → (answer : Result Bool TraceFault) (old new : TracerView C N)
-    → IsClosedAs answers tells (Some id) answer old new → IsClosedAs answers tells found answer old new
-closed_as answers tells found id is_found answer old new closed =
-    let ByFound : Option Id → Type 0 = λ one. IsClosedAs answers tells one answer old new in
+    → IsClosedAs answers reads (Some id) answer old new → IsClosedAs answers reads found answer old new
+closed_as answers reads found id is_found answer old new closed =
+    let ByFound : Option Id → Type 0 = λ one. IsClosedAs answers reads one answer old new in
     subst ByFound (sym is_found) closed

@@ -8,7 +8,7 @@ use Rattle.tracing_tree_base.specs.declared.context.Moment.{Moment}
 use Rattle.tracing_tree_base.specs.declared.style.Level.TheVariants.{Info, Warn}
 use Rattle.tracing_tree_spans.specs.Registry.Ids.{id_of}
 use Rattle.tracing_tree_layer.proofs.WorkedCalls.{lined, start_of_1970, written}
-use Rattle.tracing_tree_tracer.specs.Tracers.{Teller, after_close, after_open, close_call, current_of, event_call, open_call, outer_of, record_call}
+use Rattle.tracing_tree_tracer.specs.Tracers.{Emitter, after_close, after_open, close_call, current_of, event_call, open_call, outer_of, record_call}
 use Rattle.tracing_tree_tracer.specs.Values.{escaped_char}
 use Rattle.tracing_tree_tracer.specs.declared.tracer.TraceFault.TheVariants.{NoSpan}
 
@@ -32,7 +32,7 @@ a_refused_close_leaves_the_spans = refl
 
 -- ---- the calls of a connection
 
-abbrev pub web : Teller
+abbrev pub web : Emitter
 web = record { target = codes "web"; thread_id = 1; thread_name = None }
 
 abbrev pub start : Moment

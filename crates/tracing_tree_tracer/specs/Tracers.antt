@@ -16,7 +16,7 @@ use Rattle.tracing_tree_tracer.specs.declared.tracer.TraceFault.TheVariants.{NoS
 use Rattle.tracing_tree_tracer.specs.Values.{message_field}
 
 -- the origin of all that a tracer reports: the target and the thread
-pub record Teller : Type 0 where
+pub record Emitter : Type 0 where
   pub target : List ℕ
   pub thread_id : ℕ
   pub thread_name : Option (List ℕ)
@@ -26,7 +26,7 @@ pub record Teller : Type 0 where
 pub record TracerView (C N : Type 0) : Type 0 where
   pub layered : C
   pub clock : N
-  pub teller : Teller
+  pub emitter : Emitter
   pub spans : List Id
 
 -- the current span: the last of those that are open
@@ -40,32 +40,32 @@ outer_of spans = take (length spans - 1) spans
 -- ---- the calls
 
 -- the context of a call in this current span
-abbrev pub context_in : Teller → Option Id → Moment → Context
-context_in teller current moment = record {
+abbrev pub context_in : Emitter → Option Id → Moment → Context
+context_in emitter current moment = record {
   current = current;
-  thread_id = teller.thread_id;
-  thread_name = teller.thread_name;
+  thread_id = emitter.thread_id;
+  thread_name = emitter.thread_name;
   moment = moment;
 }
 
-abbrev pub open_call : Teller → List Id → List ℕ → List Field → Moment → Call
-open_call teller spans name fields moment =
-    New (record { name = name; target = teller.target; parent = Current; fields = fields })
-    (context_in teller (current_of spans) moment)
+abbrev pub open_call : Emitter → List Id → List ℕ → List Field → Moment → Call
+open_call emitter spans name fields moment =
+    New (record { name = name; target = emitter.target; parent = Current; fields = fields })
+    (context_in emitter (current_of spans) moment)
 
-abbrev pub event_call : Teller → List Id → Level → List ℕ → List Field → Moment → Call
-event_call teller spans level message fields moment =
+abbrev pub event_call : Emitter → List Id → Level → List ℕ → List Field → Moment → Call
+event_call emitter spans level message fields moment =
     Event (record {
       level = level;
-      target = teller.target;
+      target = emitter.target;
       parent = Current;
       fields = message_field message ∷ fields;
-    }) (context_in teller (current_of spans) moment)
+    }) (context_in emitter (current_of spans) moment)
 
 -- a span is left before it is closed
-abbrev pub close_call : Teller → List Id → Id → Moment → Call
-close_call teller spans id moment =
-    Close id (context_in teller (current_of (outer_of spans)) moment)
+abbrev pub close_call : Emitter → List Id → Id → Moment → Call
+close_call emitter spans id moment =
+    Close id (context_in emitter (current_of (outer_of spans)) moment)
 
 abbrev pub record_call : List Field → Id → Call
 record_call fields id = Record id (record { fields = fields })
@@ -109,8 +109,8 @@ module _ {C : Type 0} (answers : Call → Result Reply Refusal → C → C → T
   -- the call at a moment that the clock may report was made and answered this way
   abbrev pub MadeAt : (Option Moment → Type 0) → (Moment → Call) → C → C → Result Reply Refusal
       → Type 0
-  MadeAt tells call old new answer =
-      (moment : Moment) × tells (Some moment) × Made (call moment) old new answer
+  MadeAt reads call old new answer =
+      (moment : Moment) × reads (Some moment) × Made (call moment) old new answer
 
 module _ {C N : Type 0} where
   -- what a method that makes one call leaves: these open spans, and nothing else changed if it made
@@ -121,29 +121,29 @@ module _ {C N : Type 0} where
     pub left : new ≡ record old { layered = new.layered; spans = spans }
 
 module _ {C N : Type 0} (answers : Call → Result Reply Refusal → C → C → Type 0)
-    (tells : N → Option Moment → Type 0) where
+    (reads : N → Option Moment → Type 0) where
   -- a span was opened
   abbrev pub IsOpened : List ℕ → List Field → Result Id TraceFault → TracerView C N
       → TracerView C N → Type 0
   IsOpened name fields answer old new =
-      Leaves (MadeAt answers (tells old.clock) (open_call old.teller old.spans name fields))
-      (tells old.clock None) (after_open old.spans answer) (reply_as Span answer) old new
+      Leaves (MadeAt answers (reads old.clock) (open_call old.emitter old.spans name fields))
+      (reads old.clock None) (after_open old.spans answer) (reply_as Span answer) old new
 
   -- an event was reported
-  abbrev pub IsTold : Level → List ℕ → List Field → Result (Unit {0}) TraceFault
+  abbrev pub IsEmitted : Level → List ℕ → List Field → Result (Unit {0}) TraceFault
       → TracerView C N → TracerView C N → Type 0
-  IsTold level message fields answer old new =
-      Leaves (MadeAt answers (tells old.clock) (event_call old.teller old.spans level message
+  IsEmitted level message fields answer old new =
+      Leaves (MadeAt answers (reads old.clock) (event_call old.emitter old.spans level message
       fields))
-      (tells old.clock None) old.spans (reply_as done answer) old new
+      (reads old.clock None) old.spans (reply_as done answer) old new
 
   -- this span, which is the current one, was closed, if there is one
   abbrev pub IsClosedAs : Option Id → Result Bool TraceFault → TracerView C N
       → TracerView C N → Type 0
   IsClosedAs None answer old new = (answer ≡ Err NoSpan) × (new ≡ old)
   IsClosedAs (Some id) answer old new =
-      Leaves (MadeAt answers (tells old.clock) (close_call old.teller old.spans id))
-      (tells old.clock None) (after_close old.spans answer) (reply_as Closed answer) old new
+      Leaves (MadeAt answers (reads old.clock) (close_call old.emitter old.spans id))
+      (reads old.clock None) (after_close old.spans answer) (reply_as Closed answer) old new
 
   abbrev pub IsClosed : Result Bool TraceFault → TracerView C N → TracerView C N → Type 0
   IsClosed answer old new = IsClosedAs (current_of old.spans) answer old new

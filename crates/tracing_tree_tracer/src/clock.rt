@@ -13,18 +13,18 @@ pub trait Now: Drop {
     ghost use Rattle.tracing_tree_base.specs.declared.context.Moment.{Moment};
 
     /// The possible results: a moment, or `None`.
-    ghost tells: { Self → Option Moment → Type 0 };
+    ghost reads: { Self → Option Moment → Type 0 };
 
     /// Returns the current moment, or `None` if the clock can't be read.
     fn now(&self) -> Option<Moment>
-        ensures { tells self.now result };
+        ensures { reads self.now result };
 }
 
 /// A clock that always returns this moment, for tests and for layers that don't show times.
 impl Now for Moment {
     ghost use Rattle.std.specs.Prelude.{◌≡◌, Some};
 
-    ghost tells = { λ still told. told ≡ Some still };
+    ghost reads = { λ still moment_read. moment_read ≡ Some still };
 
     fn now(&self) -> Option<Moment>
         ensures { result ≡ Some self.now }
@@ -56,7 +56,7 @@ impl<'a, R: Clock> SystemClock<'a, R> {
 impl<R: Clock> Now for SystemClock<'_, R> {
     ghost use Rattle.std.specs.Prelude.{⊤};
 
-    ghost tells = { λ clock told. ⊤ };
+    ghost reads = { λ clock moment_read. ⊤ };
 
     fn now(&self) -> Option<Moment> {
         let since = self.started.elapsed(self.rt).ok()?;

@@ -2,7 +2,7 @@
 
 ghost use Rattle.std.specs.Prelude.{◌≡◌, [], ◌∷◌, Some, None, IfOk, MatchResult, length};
 ghost use Rattle.tracing_tree_tracer.specs.Values.{fields_of, message_field};
-ghost use Rattle.tracing_tree_tracer.specs.Tracers.{current_of, outer_of, context_in, AreClosedTo, IsOpened, IsTold, IsClosed, IsRecorded};
+ghost use Rattle.tracing_tree_tracer.specs.Tracers.{current_of, outer_of, context_in, AreClosedTo, IsOpened, IsEmitted, IsClosed, IsRecorded};
 
 use crate::clock::Now;
 use crate::spans::Spans;
@@ -82,7 +82,7 @@ impl<C: Calls, N: Now> Model for Tracer<C, N> {
     ghost view = { λ t. record {
       layered = t.layered;
       clock = t.clock;
-      teller = record { target = t.target; thread_id = t.thread_id; thread_name = t.thread_name };
+      emitter = record { target = t.target; thread_id = t.thread_id; thread_name = t.thread_name };
       spans = t.spans.items;
     } };
 }
@@ -94,7 +94,7 @@ impl<C: Calls, N: Now> Tracer<C, N> {
         ensures { result ≡ record {
           layered = layered;
           clock = clock;
-          teller = record { target = []; thread_id = 1; thread_name = None };
+          emitter = record { target = []; thread_id = 1; thread_name = None };
           spans = [];
         } }
     {
@@ -111,7 +111,7 @@ impl<C: Calls, N: Now> Tracer<C, N> {
 
     /// Sets the target of all further spans and events.
     pub fn with_target(mut self, target: Text) -> Tracer<C, N>
-        ensures { result ≡ record self { teller = record self.teller { target = target } } }
+        ensures { result ≡ record self { emitter = record self.emitter { target = target } } }
     {
         self.target = target;
         self
@@ -120,7 +120,7 @@ impl<C: Calls, N: Now> Tracer<C, N> {
     /// Sets the thread of all further calls.
     pub fn with_thread(mut self, id: u64, name: Option<Text>) -> Tracer<C, N>
         ensures { result ≡ record self {
-          teller = record self.teller { thread_id = id; thread_name = name };
+          emitter = record self.emitter { thread_id = id; thread_name = name };
         } }
     {
         self.thread_id = id;
@@ -164,7 +164,7 @@ impl<C: Calls, N: Now> Tracer<C, N> {
     ///
     /// `NoMoment`, `Memory` or `Refused`. No span was opened then.
     pub fn open(&mut self, name: &str, fields: &[(&str, Value<'_>)]) -> Result<Id, TraceFault>
-        ensures { IsOpened C.answers N.tells name.now (fields_of fields.now)
+        ensures { IsOpened C.answers N.reads name.now (fields_of fields.now)
             result self.old self.new }
     {
         let moment = self.moment()?;
@@ -184,7 +184,7 @@ impl<C: Calls, N: Now> Tracer<C, N> {
     /// `NoSpan` if no span is open. `NoMoment`, `Memory` or `Refused`: the span is still open
     /// then.
     pub fn close(&mut self) -> Result<bool, TraceFault>
-        ensures { IsClosed C.answers N.tells result self.old self.new }
+        ensures { IsClosed C.answers N.reads result self.old self.new }
     {
         let Some(id) = self.current() else {
             return Err(TraceFault::NoSpan);
@@ -207,7 +207,7 @@ impl<C: Calls, N: Now> Tracer<C, N> {
         message: &str,
         fields: &[(&str, Value<'_>)],
     ) -> Result<(), TraceFault>
-        ensures { IsTold C.answers N.tells level message.now
+        ensures { IsEmitted C.answers N.reads level message.now
             (fields_of fields.now) result self.old self.new }
     {
         let moment = self.moment()?;
@@ -219,7 +219,7 @@ impl<C: Calls, N: Now> Tracer<C, N> {
 
     /// Records an event of level TRACE, like `event`.
     pub fn trace(&mut self, message: &str, fields: &[(&str, Value<'_>)]) -> Result<(), TraceFault>
-        ensures { IsTold C.answers N.tells Level.Trace message.now
+        ensures { IsEmitted C.answers N.reads Level.Trace message.now
             (fields_of fields.now) result self.old self.new }
     {
         self.event(Level::Trace, message, fields)
@@ -227,7 +227,7 @@ impl<C: Calls, N: Now> Tracer<C, N> {
 
     /// Records an event of level DEBUG, like `event`.
     pub fn debug(&mut self, message: &str, fields: &[(&str, Value<'_>)]) -> Result<(), TraceFault>
-        ensures { IsTold C.answers N.tells Level.Debug message.now
+        ensures { IsEmitted C.answers N.reads Level.Debug message.now
             (fields_of fields.now) result self.old self.new }
     {
         self.event(Level::Debug, message, fields)
@@ -235,7 +235,7 @@ impl<C: Calls, N: Now> Tracer<C, N> {
 
     /// Records an event of level INFO, like `event`.
     pub fn info(&mut self, message: &str, fields: &[(&str, Value<'_>)]) -> Result<(), TraceFault>
-        ensures { IsTold C.answers N.tells Level.Info message.now
+        ensures { IsEmitted C.answers N.reads Level.Info message.now
             (fields_of fields.now) result self.old self.new }
     {
         self.event(Level::Info, message, fields)
@@ -243,7 +243,7 @@ impl<C: Calls, N: Now> Tracer<C, N> {
 
     /// Records an event of level WARN, like `event`.
     pub fn warn(&mut self, message: &str, fields: &[(&str, Value<'_>)]) -> Result<(), TraceFault>
-        ensures { IsTold C.answers N.tells Level.Warn message.now
+        ensures { IsEmitted C.answers N.reads Level.Warn message.now
             (fields_of fields.now) result self.old self.new }
     {
         self.event(Level::Warn, message, fields)
@@ -251,7 +251,7 @@ impl<C: Calls, N: Now> Tracer<C, N> {
 
     /// Records an event of level ERROR, like `event`.
     pub fn error(&mut self, message: &str, fields: &[(&str, Value<'_>)]) -> Result<(), TraceFault>
-        ensures { IsTold C.answers N.tells Level.Error message.now
+        ensures { IsEmitted C.answers N.reads Level.Error message.now
             (fields_of fields.now) result self.old self.new }
     {
         self.event(Level::Error, message, fields)
@@ -281,7 +281,7 @@ impl<C: Calls, N: Now> Tracer<C, N> {
     /// Returns the fault of the first span that can't be closed. That span and its ancestors are
     /// still open.
     pub fn close_to(&mut self, depth: usize) -> Result<(), TraceFault>
-        ensures { AreClosedTo C.answers N.tells depth result self.old self.new }
+        ensures { AreClosedTo C.answers N.reads depth result self.old self.new }
     {
         if self.depth() <= depth {
             return Ok(());
@@ -291,8 +291,8 @@ impl<C: Calls, N: Now> Tracer<C, N> {
     }
 
     fn moment(&self) -> Result<Moment, TraceFault>
-        ensures { MatchResult result (λ moment. N.tells self.now.clock (Some moment))
-            (λ fault. (fault ≡ TraceFault.NoMoment) × N.tells self.now.clock None) }
+        ensures { MatchResult result (λ moment. N.reads self.now.clock (Some moment))
+            (λ fault. (fault ≡ TraceFault.NoMoment) × N.reads self.now.clock None) }
     {
         self.clock.now().ok_or(TraceFault::NoMoment)
     }
@@ -301,7 +301,7 @@ impl<C: Calls, N: Now> Tracer<C, N> {
     fn attributes(&self, name: &str, fields: &[(&str, Value<'_>)]) -> Result<Attributes, AllocError>
         ensures { IfOk result (λ attributes. attributes ≡ record {
           name = name.now;
-          target = self.now.teller.target;
+          target = self.now.emitter.target;
           parent = Parent.Current;
           fields = fields_of fields.now;
         }) }
@@ -323,7 +323,7 @@ impl<C: Calls, N: Now> Tracer<C, N> {
     ) -> Result<Event, AllocError>
         ensures { IfOk result (λ event. event ≡ record {
           level = level;
-          target = self.now.teller.target;
+          target = self.now.emitter.target;
           parent = Parent.Current;
           fields = message_field message.now ∷ fields_of fields.now;
         }) }
@@ -345,7 +345,7 @@ impl<C: Calls, N: Now> Tracer<C, N> {
     }
 
     fn context(&self, current: Option<Id>, moment: Moment) -> Result<Context, AllocError>
-        ensures { IfOk result (λ context. context ≡ context_in self.now.teller current moment) }
+        ensures { IfOk result (λ context. context ≡ context_in self.now.emitter current moment) }
     {
         let thread_name = match &self.thread_name {
             Some(name) => Some(name.clone()?),
@@ -366,9 +366,9 @@ impl<C: Calls, N: Now> Spans for Tracer<C, N> {
 
     ghost depth_of = { λ tracer. length tracer.spans };
 
-    ghost opens = { IsOpened C.answers N.tells };
+    ghost opens = { IsOpened C.answers N.reads };
 
-    ghost closes_to = { AreClosedTo C.answers N.tells };
+    ghost closes_to = { AreClosedTo C.answers N.reads };
 
     fn depth(&self) -> usize {
         self.depth()

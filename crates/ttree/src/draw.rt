@@ -15,11 +15,11 @@ use std::alloc::AllocError;
 use std::io;
 use std::io::{BufReader, Read, Write};
 use tracing_tree::lines::BLOCK;
-use ttree_adapters::Mapped;
+use ttree_adapters::{CountsAtLeast, Mapped, Then};
 use ttree_go_test::{Failed, GoTest};
 use ttree_logs::Logs;
 use ttree_prefix::{Mark, Prefixed};
-use ttree_source::{AtLeast, Format, Lack, Plain, Source, ThreadColumns, is_otlp};
+use ttree_source::{AtLeast, Format, Plain, Problem, Source, is_otlp};
 use ttree_tap::Tap;
 use ttree_tracing::Tracing;
 
@@ -177,7 +177,7 @@ fn draw_preamble<R: AllocGlobal + Eprint + Print>(
     if head.preamble().is_empty() || options.form.is_some() {
         return Ok(Status::Success);
     }
-    let plain = ThreadColumns::new(Plain::new(some_moment()), options.has_threads());
+    let plain = Mapped::new(Plain::new(some_moment()), options.thread_columns());
     let source = AtLeast::new(plain, options.min_level());
     let (status, _source) = draw_input(
         rt,
@@ -247,10 +247,10 @@ fn draw_tracing<R: AllocGlobal + Eprint + Print, I: Read + Drop>(
     options: &Options<'_>,
 ) -> Result<Status, AllocError> {
     let tracing = Tracing::new(rt.alloc(), 1, some_moment());
-    let columns = ThreadColumns::new(tracing, options.has_threads());
-    let further = Mapped::new(columns, options.line_fields(rt.alloc())?);
+    let columns = options.thread_columns();
+    let further = Then::new(columns, options.line_fields(rt.alloc())?);
     let source = AtLeast::new(
-        Prefixed::new(rt.alloc(), further, mark),
+        Prefixed::new(rt.alloc(), Mapped::new(tracing, further), mark),
         options.min_level(),
     );
     let (status, _source) = draw_lines(rt, origin, input, source, options)?;
@@ -282,14 +282,32 @@ fn draw_tap<R: AllocGlobal + Eprint + Print, I: Read + Drop>(
     mark: Option<Mark>,
     options: &Options<'_>,
 ) -> Result<Status, AllocError> {
-    let tap = if options.is_failed {
-        Tap::only_failed(rt.alloc(), 1, some_moment())?
-    } else {
-        Tap::new(rt.alloc(), 1, some_moment())?
-    };
+    if options.is_only_failed() {
+        return draw_failed_tap(rt, origin, input, mark, options);
+    }
+    let tap = Tap::new(rt.alloc(), 1, some_moment())?;
     let source = AtLeast::new(Prefixed::new(rt.alloc(), tap, mark), options.min_level());
     let (status, source) = draw_lines(rt, origin, input, source, options)?;
     Ok(with_tests(status, source.into_source().into_source().has_failed()))
+}
+
+// Shows what failed of TAP. The lines that say why are shown whatever their level.
+fn draw_failed_tap<R: AllocGlobal + Eprint + Print, I: Read + Drop>(
+    rt: &R,
+    origin: Origin<'_>,
+    input: I,
+    mark: Option<Mark>,
+    options: &Options<'_>,
+) -> Result<Status, AllocError> {
+    let tap = Tap::only_failed(rt.alloc(), 1, some_moment())?;
+    let min_level = options.min_level();
+    let source = Mapped::new(
+        Prefixed::new(rt.alloc(), tap, mark),
+        CountsAtLeast { min_level },
+    );
+    let (status, source) = draw_lines(rt, origin, input, source, options)?;
+    let (source, _counts) = source.into_parts();
+    Ok(with_tests(status, source.into_source().has_failed()))
 }
 
 // Shows the lines of a source, and returns the source afterwards.
@@ -334,7 +352,7 @@ fn draw_document<R: AllocGlobal + Eprint + Print, I: Read + Drop>(
         return draw_otlp(rt, origin, head, bytes, options);
     }
     let Some(text) = whole_characters(bytes.as_slice()) else {
-        let _ = eprintln!(rt; "{origin}{}", Lack::Utf8);
+        let _ = eprintln!(rt; "{origin}{}", Problem::Utf8);
         return Ok(Status::Failure);
     };
     match (format, options.form) {

@@ -5,9 +5,9 @@ use std::alloc::{AllocError, Global};
 use std::fmt;
 use std::str::from_utf8;
 use tracing_tree::text::Text;
-use ttree_source::Lack;
+use ttree_source::Problem;
+use ttree_source::calls::shown;
 use ttree_source::json_text::json_text;
-use ttree_source::told::shown;
 use ttree_source::values::value_of;
 
 // How many characters of a value a message shows.
@@ -21,8 +21,8 @@ pub struct Found {
 
 impl Found {
     // Looks for the value in a line. Without memory for it, the message doesn't show it.
-    pub fn in_line(alloc: Global, lack: Lack, line: &[u8]) -> Found {
-        let value = match key_of(lack) {
+    pub fn in_line(alloc: Global, problem: Problem, line: &[u8]) -> Found {
+        let value = match key_of(problem) {
             Some(key) => value_at(alloc, key, line),
             None => Ok(None),
         };
@@ -52,13 +52,13 @@ impl fmt::Display for Found {
 }
 
 // Returns the key whose value isn't what the line needs.
-fn key_of(lack: Lack) -> Option<&'static str> {
-    match lack {
-        Lack::Action => Some("Action"),
-        Lack::Package => Some("Package"),
-        Lack::Output => Some("Output"),
-        Lack::Level => Some("level"),
-        Lack::CallName => Some("call"),
+fn key_of(problem: Problem) -> Option<&'static str> {
+    match problem {
+        Problem::Action => Some("Action"),
+        Problem::Package => Some("Package"),
+        Problem::Output => Some("Output"),
+        Problem::Level => Some("level"),
+        Problem::CallName => Some("call"),
         _ => None,
     }
 }

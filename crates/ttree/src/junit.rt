@@ -8,9 +8,11 @@ use crate::report::{Origin, Reporter, Status, Unit, report_run};
 use crate::shown::{Subject, shown_calls};
 use crate::summary::print_summary;
 use crate::tree::{fault_of_document, layered, some_moment};
-use std::alloc::AllocError;
+use std::alloc::{AllocError, Global};
 use std::io;
+use tracing_tree::call::Call;
 use tracing_tree::lines::LineCause;
+use ttree_adapters::{FailureLines, Mapping};
 use ttree_chrome::TraceCalls;
 use ttree_junit::{JunitCalls, Selection, junit_calls};
 use ttree_source::SourceRun;
@@ -44,7 +46,7 @@ pub fn draw_junit<R: AllocGlobal + Eprint + Print>(
 
 // Returns which cases and suites are shown.
 fn selection(options: &Options<'_>) -> Selection {
-    if options.is_failed {
+    if options.is_only_failed() {
         Selection::Failures
     } else {
         Selection::All
@@ -62,6 +64,26 @@ fn fault_of(junit: &JunitCalls) -> Option<&'static str> {
     }
 }
 
+// Returns the calls that --level shows. Those of failures are shown with the lines that say why.
+fn calls_shown(
+    alloc: Global,
+    junit: JunitCalls,
+    options: &Options<'_>,
+) -> Result<Vec<Call>, AllocError> {
+    let JunitCalls {
+        mut calls,
+        tally: _,
+        is_cut: _,
+        is_report: _,
+    } = junit;
+    if options.is_only_failed() {
+        let mut lines = FailureLines::new(alloc, options.min_level());
+        return lines.map(alloc, None, calls);
+    }
+    calls.retain(|call| is_shown(options.min_level(), call));
+    Ok(calls)
+}
+
 fn show<R: AllocGlobal + Eprint + Print>(
     rt: &R,
     origin: Origin<'_>,
@@ -69,13 +91,7 @@ fn show<R: AllocGlobal + Eprint + Print>(
     junit: JunitCalls,
     options: &Options<'_>,
 ) -> Result<Status, AllocError> {
-    let JunitCalls {
-        mut calls,
-        tally: _,
-        is_cut: _,
-        is_report: _,
-    } = junit;
-    calls.retain(|call| is_shown(options.min_level(), call));
+    let calls = calls_shown(rt.alloc(), junit, options)?;
     let reporter = Reporter::new(rt, origin, Unit::Element, options.is_strict);
     if let Some(form) = options.form {
         let read = TraceCalls {

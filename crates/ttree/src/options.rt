@@ -8,7 +8,7 @@ use std::alloc::{AllocError, Global};
 use tracing_tree::format::Config;
 use tracing_tree::style::Level;
 use tracing_tree::text::Text;
-use ttree_adapters::{FailureLines, LineFields, Member, Precision};
+use ttree_adapters::{FailureLines, LineFields, Member, Precision, ThreadColumns};
 use ttree_otlp::Selection;
 use ttree_page::LineForm;
 use ttree_source::{Cut, Format};
@@ -143,16 +143,28 @@ impl<'a> Options<'a> {
         self.style.has_threads
     }
 
+    // Returns the columns that rows begin with under --threads.
+    pub fn thread_columns(&self) -> Option<ThreadColumns> {
+        self.style
+            .has_threads
+            .then(|| -> ThreadColumns { ThreadColumns })
+    }
+
     // Events below this level aren't shown.
     pub fn min_level(&self) -> Level {
         self.min_level.unwrap_or(Level::Trace)
     }
 
+    // Returns whether only what failed is shown of TAP and JUnit XML, with the lines that say why.
+    pub fn is_only_failed(&self) -> bool {
+        self.is_failed || matches!(self.min_level, Some(Level::Error))
+    }
+
     // Returns what --level shows of tests: events of this level and above, and the lines of a failed
     // test. None if it shows all.
     pub fn failure_lines(&self, alloc: Global) -> Option<FailureLines> {
-        let least = self.min_level?;
-        Some(FailureLines::new(alloc, least))
+        let min_level = self.min_level?;
+        Some(FailureLines::new(alloc, min_level))
     }
 
     // Returns what --fields shows of tracing's lines.
@@ -180,7 +192,7 @@ impl<'a> Options<'a> {
         Ok(Selection {
             service,
             trace: Text::from(trace),
-            least: self.min_level,
+            min_level: self.min_level,
             is_failed: self.is_failed,
             cut: self.cut,
         })
@@ -467,7 +479,7 @@ fn level_option<'a>(alloc: Global) -> Arg<'a> {
         .long("level")
         .value_name("LEVEL")
         .help(
-            "Draws only events of this level and above, and spans only where one happens in them; of go-test also the lines that a failed test printed",
+            "Draws only events of this level and above, and spans only where one happens in them; of go-test also the lines that a failed test printed; of tap and junit, error draws what --failed draws",
         )
         .value_parser(&["trace", "debug", "info", "warn", "error"][..])
 }

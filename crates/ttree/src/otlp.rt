@@ -13,7 +13,7 @@ use tracing_tree::call::Call;
 use tracing_tree::lines::{BLOCK, LineCause};
 use ttree_chrome::TraceCalls;
 use ttree_otlp::{OtlpCalls, otlp_calls};
-use ttree_source::{Lack, Notes};
+use ttree_source::{Notes, Problem};
 
 // Shows traces and logs of OTLP. Lines that aren't UTF-8 are skipped.
 pub fn draw_otlp<R: AllocGlobal + Eprint + Print>(
@@ -36,7 +36,7 @@ pub fn draw_otlp<R: AllocGlobal + Eprint + Print>(
     let Readable { text, skipped } = Readable::of(rt.alloc(), bytes.as_slice())?;
     drop(bytes);
     for line in skipped {
-        if !reporter.note(line, Lack::Utf8, &[]) {
+        if !reporter.note(line, Problem::Utf8, &[]) {
             return Ok(Status::Failure);
         }
     }

@@ -9,7 +9,7 @@ use tracing_tree::format::{Refusal, Wrap};
 use tracing_tree::layered::Layered;
 use tracing_tree::lines::{LineCause, LineFault};
 use tracing_tree::time::FormatTime;
-use ttree_source::{Lack, Notes, SourceRun};
+use ttree_source::{Notes, Problem, SourceRun};
 
 // What `ttree` says if no line determines the format.
 const FORMATS: &str =
@@ -237,17 +237,17 @@ impl fmt::Display for Unit {
 #[derive(Drop)]
 struct Reason {
     unit: Unit,
-    lack: Lack,
+    problem: Problem,
     found: Found,
 }
 
 impl fmt::Display for Reason {
     fn fmt<W: fmt::Write>(&self, f: &mut fmt::Formatter<W>) -> fmt::Result {
-        match (self.unit, self.lack) {
-            (Unit::Export, Lack::Object) => { f.write_str(EXPORT) }
-            (_, lack) => {
+        match (self.unit, self.problem) {
+            (Unit::Export, Problem::Object) => { f.write_str(EXPORT) }
+            (_, problem) => {
                 let found = &self.found;
-                write!(f, "{lack}{found}")
+                write!(f, "{problem}{found}")
             }
         }
     }
@@ -269,19 +269,19 @@ pub struct Reporter<'a, R> {
 }
 
 impl<R: AllocGlobal + Eprint> Notes for Reporter<'_, R> {
-    fn note(&mut self, number: u64, lack: Lack, line: &[u8]) -> bool {
+    fn note(&mut self, number: u64, problem: Problem, line: &[u8]) -> bool {
         let origin = self.origin;
         let unit = self.unit;
-        if lack == Lack::Trace {
+        if problem == Problem::Trace {
             self.is_no_trace = true;
-            let _ = eprintln!(self.rt; "{origin}{lack}");
+            let _ = eprintln!(self.rt; "{origin}{problem}");
             return !self.is_strict;
         }
         let number = number.saturating_add(self.lines_before);
         let reason = Reason {
             unit,
-            lack,
-            found: Found::in_line(self.rt.alloc(), lack, line),
+            problem,
+            found: Found::in_line(self.rt.alloc(), problem, line),
         };
         if self.is_strict {
             let _ = eprintln!(self.rt; "{origin}{unit} {number}: {reason}");

@@ -23,7 +23,7 @@ use ttree_adapters::{Mapped, Mapping, OneRow, RowClock};
 use ttree_chrome::{Leaves, TraceCalls, trace_calls};
 use ttree_source::run::make;
 use ttree_source::values::value_of;
-use ttree_source::{CallLines, Lack, Notes, Source, SourceRun, draw_source};
+use ttree_source::{CallLines, Notes, Problem, Source, SourceRun, draw_source};
 use ttree_terminal::Shaping;
 
 // Returns the moment of the calls before a source knows one.
@@ -192,7 +192,7 @@ pub fn read_trace<N: Notes>(
 struct Silent;
 
 impl Notes for Silent {
-    fn note(&mut self, _number: u64, _lack: Lack, _line: &[u8]) -> bool {
+    fn note(&mut self, _number: u64, _problem: Problem, _line: &[u8]) -> bool {
         true
     }
 }

@@ -15,19 +15,19 @@ use Rattle.tracing_tree_spans.specs.declared.registry.Event.{Event as EventParts
 use Rattle.tracing_tree_base.specs.declared.style.Level.{Level}
 use Rattle.ttree_adapters.specs.Failures.{FailuresState, Kept, all_kept, alone, failed, is_end, is_failure, kept, left_out, lines_of, no_lines, with_line, with_line_in, without_lines}
 
-module _ (least : Level) where
+module _ (min_level : Level) where
   -- none of these calls is shown
   abbrev AreBelow : List Call → Type 0
-  AreBelow lines = shown_calls least lines ≡ []
+  AreBelow lines = shown_calls min_level lines ≡ []
 
   -- no span holds a call that is shown
   record HoldsBelow (s : FailuresState) : Type 0 where
-    pub least_is : s.least ≡ least
+    pub least_is : s.min_level ≡ min_level
     pub below : All AreBelow (values_of s.held)
 
   -- of what a call becomes, that call is shown if it is one of those
   record Keeps (call : Call) (made : Kept) : Type 0 where
-    pub shown : shown_calls least made.calls ≡ shown_calls least (call ∷ [])
+    pub shown : shown_calls min_level made.calls ≡ shown_calls min_level (call ∷ [])
     pub holds : HoldsBelow made.state
 
   below_found : (found : Option (List Call)) → IfSome found AreBelow → AreBelow (unwrap_or found [])
@@ -45,16 +45,16 @@ module _ (least : Level) where
     below = All-map-remove_entry (is_at (nat_cmp span)) (λ e. e.1) AreBelow s.held holds.below;
   }
 
-  one_below : (line : Call) → is_shown least line ≡ false → AreBelow (line ∷ [])
+  one_below : (line : Call) → is_shown min_level line ≡ false → AreBelow (line ∷ [])
   one_below line hidden = rw hidden refl
 
-  more_below : (lines : List Call) (line : Call) → AreBelow lines → is_shown least line ≡ false → AreBelow (lines ++ line ∷ [])
+  more_below : (lines : List Call) (line : Call) → AreBelow lines → is_shown min_level line ≡ false → AreBelow (lines ++ line ∷ [])
   more_below lines line below hidden =
-      filter-append (is_shown least) lines (line ∷ [])
-      ∙ ap (λ (l : List Call). l ++ shown_calls least (line ∷ [])) below
+      filter-append (is_shown min_level) lines (line ∷ [])
+      ∙ ap (λ (l : List Call). l ++ shown_calls min_level (line ∷ [])) below
       ∙ one_below line hidden
 
-  with_below : (span : ℕ) (line : Call) (s : FailuresState) → is_shown least line ≡ false → HoldsBelow s → HoldsBelow (with_line span line s)
+  with_below : (span : ℕ) (line : Call) (s : FailuresState) → is_shown min_level line ≡ false → HoldsBelow s → HoldsBelow (with_line span line s)
   with_below span line s hidden holds = record {
     least_is = holds.least_is;
     below = All-values-insert_entry nat_cmp span (lines_of span s ++ line ∷ []) AreBelow
@@ -62,14 +62,14 @@ module _ (least : Level) where
         (more_below (lines_of span s) line (lines_below span s holds) hidden);
   }
 
-  with_below_in : (span : Option Id) (line : Call) (s : FailuresState) → is_shown least line ≡ false → HoldsBelow s → HoldsBelow (with_line_in span line s)
+  with_below_in : (span : Option Id) (line : Call) (s : FailuresState) → is_shown min_level line ≡ false → HoldsBelow s → HoldsBelow (with_line_in span line s)
   with_below_in (Some span) line s hidden holds = with_below span.0 line s hidden holds
   with_below_in None line s hidden holds = holds
 
   failed_keeps : (span : Option Id) (call : Call) (s : FailuresState) → HoldsBelow s → Keeps call (failed span call s)
   failed_keeps (Some span) call s holds = record {
-    shown = filter-append (is_shown least) (lines_of span.0 s) (call ∷ [])
-        ∙ ap (λ (l : List Call). l ++ shown_calls least (call ∷ [])) (lines_below span.0 s holds);
+    shown = filter-append (is_shown min_level) (lines_of span.0 s) (call ∷ [])
+        ∙ ap (λ (l : List Call). l ++ shown_calls min_level (call ∷ [])) (lines_below span.0 s holds);
     holds = without_below span.0 s holds;
   }
   failed_keeps None call s holds = record { shown = refl; holds = holds }
@@ -77,7 +77,7 @@ module _ (least : Level) where
   alone_keeps : (call : Call) (s : FailuresState) → HoldsBelow s → Keeps call (alone call s)
   alone_keeps call s holds = record { shown = refl; holds = holds }
 
-  left_keeps : (ends : Bool) (span : Option Id) (call : Call) (s : FailuresState) → is_shown least call ≡ false → HoldsBelow s →
+  left_keeps : (ends : Bool) (span : Option Id) (call : Call) (s : FailuresState) → is_shown min_level call ≡ false → HoldsBelow s →
       Keeps call (record { calls = []; state = if ends then s else with_line_in span call s })
   left_keeps true span call s hidden holds = record { shown = sym (one_below call hidden); holds = holds }
   left_keeps false span call s hidden holds = record {
@@ -85,7 +85,7 @@ module _ (least : Level) where
     holds = with_below_in span call s hidden holds;
   }
 
-  below_keeps : (reaches : Bool) (event : EventParts) (context : Context) (s : FailuresState) → HoldsBelow s → nat_le (rank s.least) (rank event.level) ≡ reaches →
+  below_keeps : (reaches : Bool) (event : EventParts) (context : Context) (s : FailuresState) → HoldsBelow s → nat_le (rank s.min_level) (rank event.level) ≡ reaches →
       Keeps (Event event context)
       (if reaches then alone (Event event context) s else left_out event.fields context.current (Event event context) s)
   below_keeps true event context s holds is = alone_keeps (Event event context) s holds
@@ -96,11 +96,11 @@ module _ (least : Level) where
   event_keeps : (fails : Bool) (event : EventParts) (context : Context) (s : FailuresState) → HoldsBelow s →
       Keeps (Event event context)
       (if fails then failed context.current (Event event context) s
-      else if nat_le (rank s.least) (rank event.level) then alone (Event event context) s
+      else if nat_le (rank s.min_level) (rank event.level) then alone (Event event context) s
       else left_out event.fields context.current (Event event context) s)
   event_keeps true event context s holds = failed_keeps context.current (Event event context) s holds
   event_keeps false event context s holds =
-      below_keeps (nat_le (rank s.least) (rank event.level)) event context s holds refl
+      below_keeps (nat_le (rank s.min_level) (rank event.level)) event context s holds refl
 
   keeps : (call : Call) (s : FailuresState) → HoldsBelow s → Keeps call (kept call s)
   keeps (Event event context) s holds = event_keeps (is_failure event.level) event context s holds
@@ -109,16 +109,16 @@ module _ (least : Level) where
   keeps (Clone id) s holds = alone_keeps (Clone id) s holds
   keeps (Record id record_of_it) s holds = alone_keeps (Record id record_of_it) s holds
 
-  shown_of_all : (calls : List Call) (s : FailuresState) → HoldsBelow s → shown_calls least (all_kept calls s).calls ≡ shown_calls least calls
+  shown_of_all : (calls : List Call) (s : FailuresState) → HoldsBelow s → shown_calls min_level (all_kept calls s).calls ≡ shown_calls min_level calls
   shown_of_all [] s holds = refl
   shown_of_all (call ∷ others) s holds =
       let first = keeps call s holds in
       let next = (kept call s).state in
-      filter-append (is_shown least) (kept call s).calls (all_kept others next).calls
-      ∙ ap (λ (l : List Call). l ++ shown_calls least (all_kept others next).calls) first.shown
-      ∙ ap (λ (l : List Call). shown_calls least (call ∷ []) ++ l) (shown_of_all others next first.holds)
-      ∙ sym (filter-append (is_shown least) (call ∷ []) others)
+      filter-append (is_shown min_level) (kept call s).calls (all_kept others next).calls
+      ∙ ap (λ (l : List Call). l ++ shown_calls min_level (all_kept others next).calls) first.shown
+      ∙ ap (λ (l : List Call). shown_calls min_level (call ∷ []) ++ l) (shown_of_all others next first.holds)
+      ∙ sym (filter-append (is_shown min_level) (call ∷ []) others)
 
   -- Whatever is held, the calls that aren't events below the least level are all made, in their order.
-  pub shown : (calls : List Call) → shown_calls least (all_kept calls (no_lines least)).calls ≡ shown_calls least calls
-  shown calls = shown_of_all calls (no_lines least) (record { least_is = refl; below = All-nil AreBelow })
+  pub shown : (calls : List Call) → shown_calls min_level (all_kept calls (no_lines min_level)).calls ≡ shown_calls min_level calls
+  shown calls = shown_of_all calls (no_lines min_level) (record { least_is = refl; below = All-nil AreBelow })

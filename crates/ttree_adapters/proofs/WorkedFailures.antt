@@ -2,7 +2,7 @@
 use Rattle.std.proofs.Common.{◌≡◌, ◌∷◌, [], ℕ, List, Some, None, codes, refl}
 use Rattle.tracing_tree_base.specs.declared.context.Moment.{Moment}
 use Rattle.tracing_tree_layer.specs.declared.call.Call.{Call}
-use Rattle.ttree_source.specs.Told.{close_call, event_call}
+use Rattle.ttree_source.specs.Calls.{close_call, event_call}
 use Rattle.tracing_tree_spans.specs.Registry.Ids.{id_of}
 use Rattle.tracing_tree_base.specs.declared.field.Field.{Field}
 use Rattle.tracing_tree_base.specs.declared.style.Level.{Level}

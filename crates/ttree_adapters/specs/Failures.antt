@@ -18,11 +18,11 @@ use Rattle.ttree_adapters.specs.Mapping.{Made}
 
 -- the least level of the events that are shown, and the lines that open spans hold, by their ids
 pub record FailuresState : Type 0 where
-  pub least : Level
+  pub min_level : Level
   pub held : List (ℕ × List Call)
 
 abbrev pub no_lines : Level → FailuresState
-no_lines least = record { least = least; held = [] }
+no_lines min_level = record { min_level = min_level; held = [] }
 
 -- ---- what a call is
 
@@ -89,7 +89,7 @@ left_out fields span call s =
 abbrev pub event_kept : EventParts → Context → FailuresState → Kept
 event_kept event context s =
     if is_failure event.level then failed context.current (Event event context) s
-    else if nat_le (rank s.least) (rank event.level) then alone (Event event context) s
+    else if nat_le (rank s.min_level) (rank event.level) then alone (Event event context) s
     else left_out event.fields context.current (Event event context) s
 
 -- An event below the least level is held with its span, unless it is the end of a test. A failure
@@ -111,9 +111,9 @@ all_kept (call ∷ others) s =
 -- Whatever spans hold, the calls that aren't events below the level are all made, in their order.
 -- What is made besides are lines of what failed.
 abbrev pub KeepsShown : Level → Type 0
-KeepsShown least =
+KeepsShown min_level =
     (calls : List Call)
-    → shown_calls least (all_kept calls (no_lines least)).calls ≡ shown_calls least calls
+    → shown_calls min_level (all_kept calls (no_lines min_level)).calls ≡ shown_calls min_level calls
 
 abbrev pub makes_kept : FailuresState → Option Json → List Call → Made FailuresState
 makes_kept s value calls = all_kept calls s

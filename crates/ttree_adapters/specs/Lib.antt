@@ -1,7 +1,9 @@
 pub mod Mapping
 pub mod Column
 pub mod Times
+pub mod Threads
 pub mod Short
 pub mod OneRow
 pub mod LineFields
 pub mod Failures
+pub mod Counts

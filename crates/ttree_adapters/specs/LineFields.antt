@@ -6,7 +6,7 @@ use Rattle.tracing_tree_base.specs.declared.field.Field.{Field}
 use Rattle.tracing_tree_layer.specs.declared.call.Call.{Call}
 use Rattle.tracing_tree_layer.specs.declared.call.Call.TheVariants.{New, Clone, Record, Event, Close}
 use Rattle.ttree_source.specs.Fields.{text_of}
-use Rattle.ttree_source.specs.Told.{shown}
+use Rattle.ttree_source.specs.Calls.{shown}
 use Rattle.ttree_adapters.specs.Mapping.{Made}
 use Rattle.ttree_adapters.specs.declared.line_fields.Member.{Member}
 

@@ -1,13 +1,12 @@
 -- Long values of fields, cut.
-use Rattle.std.specs.Prelude.{ℕ, zero, suc, ◌-◌, ◌==◌, ◌&&◌, ◌||◌, Bool, false, not, if◌then◌else◌, List, [], ◌∷◌, ◌++◌, map, Option, bytes_eq, codes}
-use Rattle.std.specs.Char.{encode_utf8}
+use Rattle.std.specs.Prelude.{ℕ, ◌==◌, ◌&&◌, ◌||◌, Bool, false, not, if◌then◌else◌, List, [], ◌∷◌, ◌++◌, map, Option, bytes_eq, codes}
 use Rattle.std.specs.List.{list_any}
-use Rattle.std.specs.Str.{chars}
+use Rattle.std.specs.Str.{chars, encode_utf8_all}
 use Rattle.json.specs.Json.{Json}
 use Rattle.tracing_tree_base.specs.declared.field.Field.{Field}
 use Rattle.tracing_tree_layer.specs.declared.call.Call.{Call}
 use Rattle.tracing_tree_layer.specs.declared.call.Call.TheVariants.{New, Clone, Record, Event, Close}
-use Rattle.ttree_adapters.specs.Column.{columns_left}
+use Rattle.ttree_columns.specs.Columns.{fitting, is_wider, start}
 use Rattle.ttree_adapters.specs.Mapping.{Made}
 use Rattle.ttree_adapters.specs.declared.short.ShortValues.{ShortValues}
 
@@ -16,31 +15,22 @@ abbrev pub is_structure : List ℕ → Bool
 is_structure [] = false
 is_structure (byte ∷ rest) = (byte == 91) || (byte == 123)
 
--- more than 200 characters
+-- more than 200 columns
 abbrev pub is_over : List ℕ → Bool
-is_over value = columns_left 201 (chars value) == 0
+is_over value = is_wider 200 start (chars value)
 
--- a field that is cut: an array or an object of more than 200 characters, and no message
+-- a field that is cut: an array or an object of more than 200 columns, and no message
 abbrev pub is_long : Field → Bool
 is_long field =
     is_structure field.value && not (bytes_eq field.name (codes "message")) && is_over field.value
-
--- a character, if there is room for it
-abbrev pub within : ℕ → ℕ → List ℕ
-within zero c = []
-within (suc left) c = encode_utf8 c
-
--- as many of these characters
-abbrev pub first_chars : ℕ → List ℕ → List ℕ
-first_chars left [] = []
-first_chars left (c ∷ cs) = within left c ++ first_chars (left - 1) cs
 
 -- `…` in UTF-8
 abbrev pub ellipsis : List ℕ
 ellipsis = 226 ∷ 128 ∷ 166 ∷ []
 
+-- the first characters, which leave a column for `…`
 abbrev pub short_text : List ℕ → List ℕ
-short_text value = first_chars 199 (chars value) ++ ellipsis
+short_text value = encode_utf8_all (fitting 200 start (chars value)) ++ ellipsis
 
 abbrev pub short_field : Field → Field
 short_field field =

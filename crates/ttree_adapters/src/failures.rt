@@ -40,7 +40,7 @@ impl Model for Lines {
 #[derive(Drop)]
 pub struct FailureLines {
     alloc: Global,
-    least: Level,
+    min_level: Level,
     // The lines of open spans, by their ids.
     held: BTreeMap<u64, Lines>,
 }
@@ -50,7 +50,7 @@ impl Model for FailureLines {
 
     ghost Value = { FailuresState };
 
-    ghost view = { λ f. record { least = f.least; held = f.held.entries } };
+    ghost view = { λ f. record { min_level = f.min_level; held = f.held.entries } };
 }
 
 impl Mapping for FailureLines {
@@ -75,13 +75,13 @@ impl Mapping for FailureLines {
 impl FailureLines {
     /// Leaves out the events below this level.
     #[tactic(auto, using(crate::proofs::ShownFailures::shown))]
-    pub fn new(alloc: Global, least: Level) -> FailureLines
-        ensures empty { result ≡ no_lines least }
-        ensures others { KeepsShown least }
+    pub fn new(alloc: Global, min_level: Level) -> FailureLines
+        ensures empty { result ≡ no_lines min_level }
+        ensures others { KeepsShown min_level }
     {
         FailureLines {
             alloc,
-            least,
+            min_level,
             held: BTreeMap::new(alloc),
         }
     }
@@ -127,7 +127,7 @@ impl FailureLines {
             self.release(made, context.current)?;
             return Ok(made.push(Call::Event(event, context))?);
         }
-        if rank(self.least) <= rank(event.level) {
+        if rank(self.min_level) <= rank(event.level) {
             return Ok(made.push(Call::Event(event, context))?);
         }
         if is_end(event.fields.as_slice()) {

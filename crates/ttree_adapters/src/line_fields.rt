@@ -11,8 +11,8 @@ use std::marker::Model;
 use tracing_tree_base::field::{Field, Fields};
 use tracing_tree_base::text::Text;
 use tracing_tree_layer::call::Call;
+use ttree_source::calls::shown;
 use ttree_source::fields::text_of;
-use ttree_source::told::shown;
 
 /// A member that is shown.
 #[derive(Debug, Drop)]

@@ -10,7 +10,7 @@ use json::Value;
 use std::alloc::{AllocError, Global};
 use std::marker::Model;
 use tracing_tree_layer::call::Call;
-use ttree_source::notes::Lack;
+use ttree_source::notes::Problem;
 use ttree_source::source::Source;
 
 /// What the calls of lines become, one line after another.
@@ -165,7 +165,7 @@ impl<S: Source, M: Mapping> Source for Mapped<S, M> {
 
     ghost ended = { mapped_ended S.ended S.ends M.makes };
 
-    ghost lacks = { S.lacks };
+    ghost value_problem = { S.value_problem };
 
     fn reads_values(&self) -> bool {
         self.source.reads_values() || self.mapping.reads_values()
@@ -183,8 +183,8 @@ impl<S: Source, M: Mapping> Source for Mapped<S, M> {
         }
     }
 
-    fn lack(value: Option<&Value<'_>>) -> Lack {
-        S::lack(value)
+    fn problem(value: Option<&Value<'_>>) -> Problem {
+        S::problem(value)
     }
 
     fn end(&mut self, alloc: Global) -> Result<Vec<Call>, AllocError> {

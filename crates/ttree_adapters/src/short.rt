@@ -1,11 +1,9 @@
 //! Long values of fields, cut.
 
-ghost use Rattle.std.specs.Prelude.{◌≡◌, ◌++◌, IfOk, OnOk, bytes_eq, codes, map, string_bytes};
+ghost use Rattle.std.specs.Prelude.{◌≡◌, IfOk, bytes_eq, codes, map};
 ghost use Rattle.std.specs.List.{list_any};
-ghost use Rattle.std.specs.Str.{chars};
-ghost use Rattle.ttree_adapters.specs.Short.{fields_of, first_chars, has_long, is_long, is_over, is_structure, short_call, short_field, short_text, within};
+ghost use Rattle.ttree_adapters.specs.Short.{fields_of, has_long, is_long, is_over, is_structure, short_call, short_field, short_text};
 
-use crate::column::columns_left;
 use crate::mapping::Mapping;
 use json::Value;
 use std::alloc::{AllocError, Global};
@@ -13,12 +11,13 @@ use tracing_tree_base::field::{Field, Fields};
 use tracing_tree_base::text::Text;
 use tracing_tree_layer::call::Call;
 use tracing_tree_spans::registry::{Attributes, Event, Record};
+use ttree_columns::{is_wider, push_fitting};
 
-// How many characters of an array or an object are shown, the last of them `…`.
+// How many columns of an array or an object are shown, the last of them `…`.
 const LIMIT: usize = 200;
 
-/// Cuts arrays and objects in fields after 199 characters, and ends them with `…`, if they have
-/// more than 200. The message of an event is never cut.
+/// Cuts arrays and objects in fields that take more than 200 columns on a terminal: their first
+/// characters are shown, as many as take fewer, and `…`. The message of an event is never cut.
 #[derive(Clone, Copy, Debug, Drop)]
 pub struct ShortValues;
 
@@ -95,7 +94,7 @@ fn fields_of(call: &Call) -> &[Field]
     }
 }
 
-// Returns whether a field is cut: an array or an object of more than 200 characters.
+// Returns whether a field is cut: an array or an object of more than 200 columns.
 fn is_long(field: &Field) -> bool
     ensures { result ≡ is_long field.now }
 {
@@ -109,11 +108,11 @@ fn is_message(name: &str) -> bool
     name == "message"
 }
 
-// Returns whether a value has too many characters.
+// Returns whether a value takes too many columns.
 fn is_over(value: &str) -> bool
     ensures { result ≡ is_over value.now }
 {
-    columns_left(LIMIT + 1, value) == 0
+    is_wider(value, LIMIT)
 }
 
 // Returns whether a value may be an array or an object.
@@ -181,26 +180,7 @@ fn short_text(alloc: Global, value: &str) -> Result<Text, AllocError>
     ensures { IfOk result (λ text. text ≡ short_text value.now) }
 {
     let mut text = String::new(alloc);
-    push_first(&mut text, value)?;
+    push_fitting(&mut text, value, LIMIT)?;
     text.push_str("…")?;
     Ok(Text::from(text))
-}
-
-fn push_first(out: &mut String, value: &str) -> Result<(), AllocError>
-    ensures { OnOk result (string_bytes out.new
-        ≡ string_bytes out.old ++ first_chars 199 (chars value.now)) }
-{
-    let mut left = LIMIT - 1;
-    for c in value.chars() {
-        push_within(out, left, c)?;
-        left = left.saturating_sub(1);
-    }
-    Ok(())
-}
-
-// Appends a character, if there is room for it.
-fn push_within(out: &mut String, left: usize, c: char) -> Result<(), AllocError>
-    ensures { OnOk result (string_bytes out.new ≡ string_bytes out.old ++ within left c) }
-{
-    if left > 0 { out.push(c) } else { Ok(()) }
 }

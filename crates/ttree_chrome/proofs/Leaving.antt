@@ -1,7 +1,7 @@
 -- Spans that are left one after another.
 use Rattle.std.proofs.Common.{rules, ◌≡◌, Bool, true, false, List, [], ◌∷◌, length, drop, Option, Some, None, if◌then◌else◌, refl, sym, ap, ◌∙◌}
 use Rattle.tracing_tree_base.specs.declared.context.Id.{Id}
-use Rattle.ttree_chrome.specs.Tree.{TreeState, at_end, closed, closed_as, is_left, leaving, leaving_count, left, left_out_told, left_while, with_settled}
+use Rattle.ttree_chrome.specs.Tree.{TreeState, at_end, closed, closed_as, is_left, leaving, leaving_count, left, left_out_emitted, left_while, with_settled}
 use Rattle.ttree_chrome.specs.declared.gather.Point.{Point}
 use Rattle.ttree_chrome.specs.declared.tree.Frame.{Frame}
 use Rattle.ttree_chrome.specs.declared.tree.Until.{Until}
@@ -15,12 +15,12 @@ settled_keeps : (span : Option Waiting) (s : TreeState) → (with_settled span s
 settled_keeps None s = refl
 settled_keeps (Some span) s = refl
 
-closed_keeps : (id above : Option Id) (s : TreeState) → (closed id above s).frames ≡ s.frames
-closed_keeps (Some id) above s = refl
-closed_keeps None above s = refl
+closed_keeps : (id parent : Option Id) (s : TreeState) → (closed id parent s).frames ≡ s.frames
+closed_keeps (Some id) parent s = refl
+closed_keeps None parent s = refl
 
 leaf_keeps : (span : Option Waiting) (frame : Frame) (s : TreeState) → (closed_as span frame s).frames ≡ s.frames
-leaf_keeps None frame s = closed_keeps frame.id frame.above s
+leaf_keeps None frame s = closed_keeps frame.id frame.parent s
 leaf_keeps (Some span) frame s = refl
 
 if_keeps : (b : Bool) (s t : TreeState) → t.frames ≡ s.frames → (if b then s else t).frames ≡ s.frames
@@ -31,7 +31,7 @@ if_keeps false s t h = h
 left_keeps : (frame : Frame) (s : TreeState) → (left frame s).frames ≡ s.frames
 left_keeps frame s =
     let ended : TreeState = at_end frame.end s in
-    leaf_keeps (left_out_told frame ended).waiting frame (left_out_told frame ended)
+    leaf_keeps (left_out_emitted frame ended).waiting frame (left_out_emitted frame ended)
     ∙ if_keeps _ ended _ (settled_keeps ended.waiting ended) ∙ end_keeps frame.end s
 
 -- a span that is left, and those after it

@@ -3,7 +3,7 @@ pub mod Digits
 pub mod Places
 mod Leaving
 mod LastInLane
-pub mod Hearing
+pub mod Interpreting
 pub mod Noting
 mod Worked
 mod WorkedLeaves

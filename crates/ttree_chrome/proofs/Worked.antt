@@ -7,7 +7,7 @@ use Rattle.json.specs.Json.{null, number, string, array, object, member, no_memb
 use Rattle.ttree_chrome.specs.Element.{element_of}
 use Rattle.ttree_chrome.specs.Number.{length_of, nanoseconds_of, time_of}
 use Rattle.ttree_chrome.specs.Text.{is_cut, mended}
-use Rattle.ttree_source.specs.declared.notes.Lack.TheVariants.{Phase, Process, Thread, Start, Duration}
+use Rattle.ttree_source.specs.declared.notes.Problem.TheVariants.{Phase, Process, Thread, Start, Duration}
 use Rattle.ttree_chrome.specs.declared.element.Element.TheVariants.{Span, Begin, End, Instant, Async, ProcessName, ThreadName, Metadata, Undrawn}
 use Rattle.ttree_chrome.specs.declared.element.Ident.TheVariants.{Number, Name}
 use Rattle.ttree_chrome.specs.declared.element.Track.TheVariants.{Begin as TrackBegins, End as TrackEnds}

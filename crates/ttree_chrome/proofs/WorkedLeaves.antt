@@ -5,7 +5,7 @@ use Rattle.tracing_tree_base.specs.declared.context.Moment.{Moment}
 use Rattle.tracing_tree_layer.specs.declared.call.Call.{Call}
 use Rattle.tracing_tree_base.specs.declared.style.Level.TheVariants.{Info}
 use Rattle.tracing_tree_spans.specs.Registry.Ids.{id_of}
-use Rattle.ttree_source.specs.Told.{close_call, event_call, message_field, span_call}
+use Rattle.ttree_source.specs.Calls.{close_call, event_call, message_field, span_call}
 use Rattle.ttree_source.specs.declared.cut.Cut.{Cut}
 use Rattle.ttree_chrome.specs.Gather.{none_later, nothing_gathered, point}
 use Rattle.ttree_chrome.specs.Trace.{calls_in_order}

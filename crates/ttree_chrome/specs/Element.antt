@@ -5,10 +5,10 @@ use Rattle.json.specs.Find.{get, as_number}
 use Rattle.tracing_tree_base.specs.declared.field.Field.{Field}
 use Rattle.ttree_source.specs.Values.{text_at}
 use Rattle.ttree_source.specs.Fields.{event_fields}
-use Rattle.ttree_source.specs.Told.{shown}
+use Rattle.ttree_source.specs.Calls.{shown}
 use Rattle.ttree_chrome.specs.Number.{integer_of, length_of, time_of}
-use Rattle.ttree_source.specs.declared.notes.Lack.{Lack}
-use Rattle.ttree_source.specs.declared.notes.Lack.TheVariants.{Phase as NoPhase, Process as NoProcess, Thread as NoThread, Start as NoStart, Duration as NoDuration}
+use Rattle.ttree_source.specs.declared.notes.Problem.{Problem}
+use Rattle.ttree_source.specs.declared.notes.Problem.TheVariants.{Phase as NoPhase, Process as NoProcess, Thread as NoThread, Start as NoStart, Duration as NoDuration}
 use Rattle.ttree_chrome.specs.declared.element.Ident.{Ident}
 use Rattle.ttree_chrome.specs.declared.element.Ident.TheVariants.{Number, Name}
 use Rattle.ttree_chrome.specs.declared.element.Owner.{Owner}
@@ -32,34 +32,34 @@ time_at key value = option_and_then time_of (option_and_then as_number (get key 
 abbrev pub length_at : List ℕ → Json → Option ℕ
 length_at key value = option_and_then length_of (option_and_then as_number (get key value))
 
-abbrev pub number_or : Option ℤ → Lack → Result (Option Ident) Lack
-number_or (Some found) lack = Ok (Some (Number found))
-number_or None lack = Err lack
+abbrev pub number_or : Option ℤ → Problem → Result (Option Ident) Problem
+number_or (Some found) problem = Ok (Some (Number found))
+number_or None problem = Err problem
 
 -- a whole number or a string; `None` for null
-abbrev pub ident_in : Lack → Json → Result (Option Ident) Lack
-ident_in lack null = Ok None
-ident_in lack (boolean _) = Err lack
-ident_in lack (number text) = number_or (integer_of text) lack
-ident_in lack (string text) = Ok (Some (Name text))
-ident_in lack (array _) = Err lack
-ident_in lack (object _) = Err lack
+abbrev pub ident_in : Problem → Json → Result (Option Ident) Problem
+ident_in problem null = Ok None
+ident_in problem (boolean _) = Err problem
+ident_in problem (number text) = number_or (integer_of text) problem
+ident_in problem (string text) = Ok (Some (Name text))
+ident_in problem (array _) = Err problem
+ident_in problem (object _) = Err problem
 
 -- what identifies a process or a thread: the whole number or the string at a key; `None` if the key
 -- is absent or its value is null
-abbrev pub ident_at : List ℕ → Lack → Json → Result (Option Ident) Lack
-ident_at key lack value = if_any (get key value) where
-  if_any : Option Json → Result (Option Ident) Lack
+abbrev pub ident_at : List ℕ → Problem → Json → Result (Option Ident) Problem
+ident_at key problem value = if_any (get key value) where
+  if_any : Option Json → Result (Option Ident) Problem
   if_any None = Ok None
-  if_any (Some found) = ident_in lack found
+  if_any (Some found) = ident_in problem found
 
-abbrev pub owner_of : Result (Option Ident) Lack → Result (Option Ident) Lack → Result Owner Lack
-owner_of (Err lack) thread = Err lack
-owner_of (Ok process) (Err lack) = Err lack
+abbrev pub owner_of : Result (Option Ident) Problem → Result (Option Ident) Problem → Result Owner Problem
+owner_of (Err problem) thread = Err problem
+owner_of (Ok process) (Err problem) = Err problem
 owner_of (Ok process) (Ok thread) = Ok (record { process = process; thread = thread })
 
 -- the process and the thread of an element
-abbrev pub owner_in : Json → Result Owner Lack
+abbrev pub owner_in : Json → Result Owner Problem
 owner_in value =
     owner_of (ident_at (codes "pid") NoProcess value) (ident_at (codes "tid") NoThread value)
 
@@ -76,8 +76,8 @@ fields_in value = at_args (get (codes "args") value) where
 
 -- ---- elements
 
-abbrev pub entry_of : Result Owner Lack → Option ℕ → Json → Result Entry Lack
-entry_of (Err lack) start value = Err lack
+abbrev pub entry_of : Result Owner Problem → Option ℕ → Json → Result Entry Problem
+entry_of (Err problem) start value = Err problem
 entry_of (Ok owner) None value = Err NoStart
 entry_of (Ok owner) (Some start) value = Ok (record {
   owner = owner;
@@ -87,7 +87,7 @@ entry_of (Ok owner) (Some start) value = Ok (record {
 })
 
 -- what most elements say
-abbrev pub entry_in : Json → Result Entry Lack
+abbrev pub entry_in : Json → Result Entry Problem
 entry_in value = entry_of (owner_in value) (time_at (codes "ts") value) value
 
 -- the phase that a string names, of an element at a time
@@ -100,22 +100,22 @@ phase_of text =
     else None
 
 -- a span by how long it takes
-abbrev pub span_of : Entry → Option ℕ → Result Element Lack
+abbrev pub span_of : Entry → Option ℕ → Result Element Problem
 span_of entry None = Err NoDuration
 span_of entry (Some length) = Ok (Span entry (min (entry.start + length) (2 ^ 64 - 1)))
 
-abbrev pub phased : Phase → Entry → Json → Result Element Lack
+abbrev pub phased : Phase → Entry → Json → Result Element Problem
 phased Complete entry value = span_of entry (length_at (codes "dur") value)
 phased Begins entry value = Ok (Begin entry)
 phased Ends entry value = Ok (End entry)
 phased Happens entry value = Ok (Instant entry)
 
-abbrev pub timed_of : Phase → Result Entry Lack → Json → Result Element Lack
-timed_of phase (Err lack) value = Err lack
+abbrev pub timed_of : Phase → Result Entry Problem → Json → Result Element Problem
+timed_of phase (Err problem) value = Err problem
 timed_of phase (Ok entry) value = phased phase entry value
 
 -- an element of this phase
-abbrev pub timed_in : Phase → Json → Result Element Lack
+abbrev pub timed_in : Phase → Json → Result Element Problem
 timed_in phase value = timed_of phase (entry_in value) value
 
 -- ---- asynchronous tracks
@@ -129,7 +129,7 @@ async_of text =
     then Some TrackHappens
     else None
 
--- a string or a number as it is written, empty for any other value
+-- a string or a number as written, empty for any other value
 abbrev pub text_of : Option Json → List ℕ
 text_of None = []
 text_of (Some null) = []
@@ -166,13 +166,13 @@ with_id TrackBegins entry value = record entry { fields = id_field (id_in value)
 with_id TrackEnds entry value = entry
 with_id TrackHappens entry value = entry
 
-abbrev pub async_told : Track → Result Entry Lack → Json → Result Element Lack
-async_told track (Err lack) value = Err lack
-async_told track (Ok entry) value = Ok (Async track (with_id track entry value) (track_in value))
+abbrev pub async_emitted : Track → Result Entry Problem → Json → Result Element Problem
+async_emitted track (Err problem) value = Err problem
+async_emitted track (Ok entry) value = Ok (Async track (with_id track entry value) (track_in value))
 
 -- an element of an asynchronous track
-abbrev pub async_in : Track → Json → Result Element Lack
-async_in track value = async_told track (entry_in value) value
+abbrev pub async_in : Track → Json → Result Element Problem
+async_in track value = async_emitted track (entry_in value) value
 
 -- ---- names
 
@@ -187,11 +187,11 @@ abbrev pub named_as : Naming → Owner → List ℕ → Element
 named_as OfProcess owner text = ProcessName owner text
 named_as OfThread owner text = ThreadName owner text
 
-abbrev pub owner_named : Naming → Result Owner Lack → List ℕ → Result Element Lack
-owner_named naming (Err lack) text = Err lack
+abbrev pub owner_named : Naming → Result Owner Problem → List ℕ → Result Element Problem
+owner_named naming (Err problem) text = Err problem
 owner_named naming (Ok owner) text = Ok (named_as naming owner text)
 
-abbrev pub named_of : Option Naming → Option (List ℕ) → Result Owner Lack → Result Element Lack
+abbrev pub named_of : Option Naming → Option (List ℕ) → Result Owner Problem → Result Element Problem
 named_of None text owner = Ok Metadata
 named_of (Some naming) None owner = Ok Metadata
 named_of (Some naming) (Some text) owner = owner_named naming owner text
@@ -201,23 +201,23 @@ abbrev pub given_name : Json → Option (List ℕ)
 given_name value = option_and_then (text_at (codes "name")) (get (codes "args") value)
 
 -- an element of metadata: it may name its process or its thread
-abbrev pub named_in : Json → Result Element Lack
+abbrev pub named_in : Json → Result Element Problem
 named_in value = named_of (naming_of (name_in value)) (given_name value) (owner_in value)
 
-abbrev pub async_if : Option Track → Json → Result Element Lack
+abbrev pub async_if : Option Track → Json → Result Element Problem
 async_if None value = Ok Undrawn
 async_if (Some track) value = async_in track value
 
-abbrev pub timed_if : Option Phase → Option Track → Json → Result Element Lack
+abbrev pub timed_if : Option Phase → Option Track → Json → Result Element Problem
 timed_if None track value = async_if track value
 timed_if (Some phase) track value = timed_in phase value
 
-abbrev pub told_as : Option (List ℕ) → Json → Result Element Lack
-told_as None value = Err NoPhase
-told_as (Some phase) value =
+abbrev pub emitted_as : Option (List ℕ) → Json → Result Element Problem
+emitted_as None value = Err NoPhase
+emitted_as (Some phase) value =
     if bytes_eq phase (codes "M") then named_in value else timed_if (phase_of phase) (async_of
     phase) value
 
 -- what an element says, or what it lacks
-abbrev pub element_of : Json → Result Element Lack
-element_of value = told_as (text_at (codes "ph") value) value
+abbrev pub element_of : Json → Result Element Problem
+element_of value = emitted_as (text_at (codes "ph") value) value

@@ -9,25 +9,25 @@ use Rattle.ttree_chrome.specs.declared.gather.Shape.{Shape}
 use Rattle.ttree_chrome.specs.declared.gather.Shape.TheVariants.{Event, Whole, Unended}
 
 abbrev pub is_long_as : Shape → Item → ℕ → Bool
-is_long_as Event item least = true
-is_long_as Whole item least = nat_le least (item.end.time - item.start.time)
-is_long_as Unended item least = true
+is_long_as Event item min_duration = true
+is_long_as Whole item min_duration = nat_le min_duration (item.end.time - item.start.time)
+is_long_as Unended item min_duration = true
 
 -- an item is drawn, if shorter spans are left out
 abbrev pub is_long : Item → ℕ → Bool
-is_long item least = is_long_as item.shape item least
+is_long item min_duration = is_long_as item.shape item min_duration
 
 abbrev pub noted : Later → Item → Item
 noted later item = record item { later = later }
 
 -- what comes after an item, by the next one: that is drawn, or one after it
 abbrev pub later_by : ℕ → Item → Option Item → Later
-later_by least item None = none_later
-later_by least item (Some next) = record {
-  in_thread = same_lane next.lane item.lane && (is_long next least || next.later.in_thread);
+later_by min_duration item None = none_later
+later_by min_duration item (Some next) = record {
+  in_thread = same_lane next.lane item.lane && (is_long next min_duration || next.later.in_thread);
   in_process =
       same_label next.lane.process item.lane.process
-      && (is_long next least || next.later.in_process);
+      && (is_long next min_duration || next.later.in_process);
 }
 
 abbrev pub first_of : List Item → Option Item
@@ -37,7 +37,7 @@ first_of (item ∷ others) = Some item
 -- items in their order, each with what comes after it: items of one thread are adjacent, and so are
 -- those of one process
 abbrev pub marked : ℕ → List Item → List Item
-marked least [] = []
-marked least (item ∷ others) =
-    let rest : List Item = marked least others in
-    noted (later_by least item (first_of rest)) item ∷ rest
+marked min_duration [] = []
+marked min_duration (item ∷ others) =
+    let rest : List Item = marked min_duration others in
+    noted (later_by min_duration item (first_of rest)) item ∷ rest

@@ -6,13 +6,13 @@ use Rattle.ttree_chrome.specs.Text.{elements_in, is_cut, mended}
 use Rattle.ttree_chrome.specs.declared.element.Element.{Element}
 use Rattle.ttree_source.specs.Counts.{one_more}
 use Rattle.ttree_source.specs.Noted.{AddsNotes, Note}
-use Rattle.ttree_source.specs.declared.notes.Lack.{Lack}
-use Rattle.ttree_source.specs.declared.notes.Lack.TheVariants.{Object, Trace}
+use Rattle.ttree_source.specs.declared.notes.Problem.{Problem}
+use Rattle.ttree_source.specs.declared.notes.Problem.TheVariants.{Object, Trace}
 
 -- the note of an element, by its number
-abbrev pub element_note : ℕ → Result Element Lack → List Note
+abbrev pub element_note : ℕ → Result Element Problem → List Note
 element_note number (Ok element) = []
-element_note number (Err lack) = (number, lack) ∷ []
+element_note number (Err problem) = (number, problem) ∷ []
 
 -- the notes of elements, which are numbered from `number` on
 abbrev pub element_notes : ℕ → Items → List Note

@@ -1,4 +1,4 @@
--- The strings that identify processes and threads, in the order in which they appear.
+-- The strings that identify processes and threads, in order of appearance.
 use Rattle.std.specs.Prelude.{ℕ, ℤ, ◌==◌, Bool, false, List, [], ◌∷◌, ◌++◌, slice_get, Option, Some, None, unwrap_or}
 use Rattle.std.specs.Option.{option_eq}
 use Rattle.std.specs.Ordering.{int_cmp, int_eq, nat_cmp}
@@ -6,7 +6,7 @@ use Rattle.std.specs.declared.cmp.Ordering.{Ordering}
 use Rattle.std.specs.declared.cmp.Ordering.TheVariants.{Less, Greater}
 use Rattle.tracing_tree_base.specs.Field.{rendered_field, whole_field}
 use Rattle.tracing_tree_base.specs.declared.field.Field.{Field}
-use Rattle.ttree_source.specs.Told.{shown}
+use Rattle.ttree_source.specs.Calls.{shown}
 use Rattle.ttree_chrome.specs.Keys.{Keys, found_key, key_number, with_key}
 use Rattle.ttree_chrome.specs.declared.element.Ident.{Ident}
 use Rattle.ttree_chrome.specs.declared.element.Ident.TheVariants.{Number, Name}
@@ -55,7 +55,7 @@ label_eq (ByName one) (ByName other) = one == other
 abbrev pub same_label : Option Label → Option Label → Bool
 same_label one other = option_eq label_eq one other
 
--- by number, and then strings in the order in which they appear
+-- by number, and then strings in order of appearance
 abbrev pub label_cmp : Label → Label → Ordering
 label_cmp (ByNumber one) (ByNumber other) = int_cmp one other
 label_cmp (ByNumber one) (ByName other) = Less

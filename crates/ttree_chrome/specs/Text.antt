@@ -17,7 +17,7 @@ elements_in (string _) = None
 elements_in (array items) = Some items
 elements_in (object members) = array_at (codes "traceEvents") (object members)
 
--- ---- a string as far as it is read
+-- ---- the part of a string that is read
 
 pub record ScanState : Type 0 where
   -- the brackets that are open, the innermost first

@@ -16,79 +16,79 @@ use Rattle.ttree_source.specs.Counts.{one_more}
 use Rattle.tracing_tree_layer.specs.Layered.Answered.{IsAnswered}
 use Rattle.ttree_source.specs.Source.{Makes, StopsIn}
 use Rattle.ttree_source.specs.declared.cut.Cut.{Cut}
-use Rattle.ttree_chrome.specs.declared.trace.Heard.{Heard}
+use Rattle.ttree_chrome.specs.declared.trace.Interpreted.{Interpreted}
 use Rattle.ttree_chrome.specs.declared.element.Element.{Element}
 use Rattle.ttree_chrome.specs.declared.gather.Item.{Item}
-use Rattle.ttree_source.specs.declared.notes.Lack.{Lack}
+use Rattle.ttree_source.specs.declared.notes.Problem.{Problem}
 use Rattle.ttree_chrome.specs.declared.leaves.Leaves.{Leaves}
 use Rattle.ttree_chrome.specs.declared.trace.TraceRun.{TraceRun}
 
 -- nothing was read yet
-abbrev pub nothing_heard_of : Heard
-nothing_heard_of = record { gathered = nothing_gathered; unknown = 0 }
+abbrev pub nothing_interpreted_of : Interpreted
+nothing_interpreted_of = record { gathered = nothing_gathered; unknown = 0 }
 
-abbrev pub heard_unknown : Heard → Heard
-heard_unknown h = record h { unknown = one_more h.unknown }
+abbrev pub interpreted_unknown : Interpreted → Interpreted
+interpreted_unknown h = record h { unknown = one_more h.unknown }
 
-abbrev pub heard_as : Result Element Lack → Heard → Heard
-heard_as (Ok element) h = record h { gathered = gathered_one element h.gathered }
-heard_as (Err lack) h = heard_unknown h
+abbrev pub interpreted_as : Result Element Problem → Interpreted → Interpreted
+interpreted_as (Ok element) h = record h { gathered = gathered_one element h.gathered }
+interpreted_as (Err problem) h = interpreted_unknown h
 
-abbrev pub heard_all : Items → Heard → Heard
-heard_all no_items h = h
-heard_all (item value others) h = heard_all others (heard_as (element_of value) h)
+abbrev pub interpreted_all : Items → Interpreted → Interpreted
+interpreted_all no_items h = h
+interpreted_all (item value others) h = interpreted_all others (interpreted_as (element_of value) h)
 
 -- what elements said; a trace that is cut within an element lost that element
-abbrev pub heard_cut : Bool → Heard → Heard
-heard_cut is_cut h = if is_cut then heard_unknown h else h
+abbrev pub interpreted_cut : Bool → Interpreted → Interpreted
+interpreted_cut is_cut h = if is_cut then interpreted_unknown h else h
 
-abbrev pub heard_by : Bool → Option Items → Heard → Heard
-heard_by is_cut None h = heard_unknown h
-heard_by is_cut (Some elements) h = heard_cut is_cut (heard_all elements h)
+abbrev pub interpreted_by : Bool → Option Items → Interpreted → Interpreted
+interpreted_by is_cut None h = interpreted_unknown h
+interpreted_by is_cut (Some elements) h = interpreted_cut is_cut (interpreted_all elements h)
 
 -- what a value means as a trace; a value that isn't a trace is unknown
-abbrev pub heard_value : Bool → Json → Heard → Heard
-heard_value is_cut value h = heard_by is_cut (elements_in value) h
+abbrev pub interpreted_value : Bool → Json → Interpreted → Interpreted
+interpreted_value is_cut value h = interpreted_by is_cut (elements_in value) h
 
-abbrev pub heard_value_or : Bool → Option Json → Heard → Heard
-heard_value_or is_cut None h = heard_unknown h
-heard_value_or is_cut (Some value) h = heard_value is_cut value h
+abbrev pub interpreted_value_or : Bool → Option Json → Interpreted → Interpreted
+interpreted_value_or is_cut None h = interpreted_unknown h
+interpreted_value_or is_cut (Some value) h = interpreted_value is_cut value h
 
 -- what a truncated string means
-abbrev pub heard_mended : List ℕ → Heard → Heard
-heard_mended text h = heard_value_or (is_cut text) (document (mended text)) h
+abbrev pub interpreted_mended : List ℕ → Interpreted → Interpreted
+interpreted_mended text h = interpreted_value_or (is_cut text) (document (mended text)) h
 
-abbrev pub heard_as_it_is : Option Json → List ℕ → Heard → Heard
-heard_as_it_is None text h = heard_mended text h
-heard_as_it_is (Some value) text h = heard_value false value h
+abbrev pub interpreted_as_it_is : Option Json → List ℕ → Interpreted → Interpreted
+interpreted_as_it_is None text h = interpreted_mended text h
+interpreted_as_it_is (Some value) text h = interpreted_value false value h
 
 -- what was read, and what a string means as a trace
-abbrev pub heard_from : List ℕ → Heard → Heard
-heard_from text h = heard_as_it_is (document text) text h
+abbrev pub interpreted_from : List ℕ → Interpreted → Interpreted
+interpreted_from text h = interpreted_as_it_is (document text) text h
 
 -- what a string means as a trace
-abbrev pub heard_in : List ℕ → Heard
-heard_in text = heard_from text nothing_heard_of
+abbrev pub interpreted_in : List ℕ → Interpreted
+interpreted_in text = interpreted_from text nothing_interpreted_of
 
 -- Why reading stopped, and what the rest would have been: memory ran out, or the notes ended the
 -- run after something unknown.
-abbrev pub EndsHearing : LineCause → Heard → Heard → Type 0
-EndsHearing NoSettings h all = ⊥
-EndsHearing NotACall h all = (0 < h.unknown) × (0 < all.unknown)
-EndsHearing Read h all = ⊥
-EndsHearing Memory h all = ⊤
-EndsHearing (Refused refusal) h all = ⊥
+abbrev pub EndsInterpreting : LineCause → Interpreted → Interpreted → Type 0
+EndsInterpreting NoSettings h all = ⊥
+EndsInterpreting NotACall h all = (0 < h.unknown) × (0 < all.unknown)
+EndsInterpreting Read h all = ⊥
+EndsInterpreting Memory h all = ⊤
+EndsInterpreting (Refused refusal) h all = ⊥
 
 -- Why no calls were read, and how many elements were unknown by then: memory ran out, or the notes
 -- ended the run after something unknown.
-abbrev pub EndsReading : LineCause → ℕ → Heard → Type 0
+abbrev pub EndsReading : LineCause → ℕ → Interpreted → Type 0
 EndsReading NoSettings unknown all = ⊥
 EndsReading NotACall unknown all = (0 < unknown) × (0 < all.unknown)
 EndsReading Read unknown all = ⊥
 EndsReading Memory unknown all = ⊤
 EndsReading (Refused refusal) unknown all = ⊥
 
--- these items in the only order in which they are drawn
+-- these items in the only drawing order
 abbrev pub IsInOrder : List Item → List Item → Type 0
 IsInOrder items ordered = IsPermutation items ordered × IsSorted item_cmp ordered
 
@@ -133,16 +133,16 @@ DrawsOrEnds next moment cut leaves gathered (Err (Refused refusal)) old new =
 -- What ended a run, with the counts of unknown elements and of those without a row: nothing was
 -- drawn because memory ran out or the notes ended the run after something unknown; or the drawing
 -- ends at a refused call.
-abbrev pub EndsTrace : ℕ → Moment → Cut → Leaves → Heard → ℕ → ℕ → LineCause → Seen → Seen → Type 0
-EndsTrace next moment cut leaves heard unknown undrawn NoSettings old new = ⊥
-EndsTrace next moment cut leaves heard unknown undrawn NotACall old new =
-    (0 < unknown) × (0 < heard.unknown) × (undrawn ≡ 0) × (new ≡ old)
-EndsTrace next moment cut leaves heard unknown undrawn Read old new = ⊥
-EndsTrace next moment cut leaves heard unknown undrawn Memory old new =
+abbrev pub EndsTrace : ℕ → Moment → Cut → Leaves → Interpreted → ℕ → ℕ → LineCause → Seen → Seen → Type 0
+EndsTrace next moment cut leaves interpreted unknown undrawn NoSettings old new = ⊥
+EndsTrace next moment cut leaves interpreted unknown undrawn NotACall old new =
+    (0 < unknown) × (0 < interpreted.unknown) × (undrawn ≡ 0) × (new ≡ old)
+EndsTrace next moment cut leaves interpreted unknown undrawn Read old new = ⊥
+EndsTrace next moment cut leaves interpreted unknown undrawn Memory old new =
     (undrawn ≡ 0) × (new ≡ old)
-EndsTrace next moment cut leaves heard unknown undrawn (Refused refusal) old new =
-    (unknown ≡ heard.unknown) × (undrawn ≡ heard.gathered.undrawn)
-    × DrawsUpTo next moment cut leaves heard.gathered refusal old new
+EndsTrace next moment cut leaves interpreted unknown undrawn (Refused refusal) old new =
+    (unknown ≡ interpreted.unknown) × (undrawn ≡ interpreted.gathered.undrawn)
+    × DrawsUpTo next moment cut leaves interpreted.gathered refusal old new
 
 abbrev pub ended_run : ℕ → LineCause → ℕ → TraceRun
 ended_run unknown cause undrawn = record {
@@ -154,9 +154,9 @@ ended_run unknown cause undrawn = record {
 -- that.
 abbrev pub RunsTrace : ℕ → Moment → Cut → Leaves → List ℕ → TraceRun → Seen → Seen → Type 0
 RunsTrace next moment cut leaves text made old new =
-    let heard = heard_in text in
+    let interpreted = interpreted_in text in
     MatchOption made.run.fault
-    (DrawsTrace next moment cut leaves heard.gathered old new
-    × (made.run.unknown ≡ heard.unknown) × (made.undrawn ≡ heard.gathered.undrawn))
+    (DrawsTrace next moment cut leaves interpreted.gathered old new
+    × (made.run.unknown ≡ interpreted.unknown) × (made.undrawn ≡ interpreted.gathered.undrawn))
     (λ fault. (fault.line ≡ 1)
-    × EndsTrace next moment cut leaves heard made.run.unknown made.undrawn fault.cause old new)
+    × EndsTrace next moment cut leaves interpreted made.run.unknown made.undrawn fault.cause old new)

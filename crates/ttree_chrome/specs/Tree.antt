@@ -13,7 +13,7 @@ use Rattle.ttree_chrome.specs.Number.{zero_time}
 use Rattle.ttree_chrome.specs.Strings.{label_field, same_label}
 use Rattle.ttree_source.specs.Length.{length_text}
 use Rattle.ttree_source.specs.Counts.{one_more}
-use Rattle.ttree_source.specs.Told.{close_call, event_call, message_field, span_call}
+use Rattle.ttree_source.specs.Calls.{close_call, event_call, message_field, span_call}
 use Rattle.ttree_source.specs.declared.cut.Cut.{Cut}
 use Rattle.ttree_chrome.specs.declared.gather.Item.{Item}
 use Rattle.ttree_chrome.specs.declared.gather.Lane.{Lane}
@@ -52,7 +52,7 @@ abbrev pub nothing_left_out : Left
 nothing_left_out = record { spans = 0; time = 0; lane = None; until = 0 }
 
 abbrev pub frame_of : Option Id → Option Id → Option Point → Frame
-frame_of id above end = record { id = id; above = above; end = end; left = nothing_left_out }
+frame_of id parent end = record { id = id; parent = parent; end = end; left = nothing_left_out }
 
 -- only the root is open
 abbrev pub begun_tree :
@@ -72,8 +72,8 @@ begun_tree next moment origin cut leaves processes threads strings = record {
   calls = [];
 }
 
-abbrev pub told : Call → TreeState → TreeState
-told call s = record s { calls = s.calls ++ call ∷ [] }
+abbrev pub emitted : Call → TreeState → TreeState
+emitted call s = record s { calls = s.calls ++ call ∷ [] }
 
 -- the moment of a time
 abbrev pub moment_at : ℕ → TreeState → Moment
@@ -87,7 +87,7 @@ at_moment time s = record s { moment = moment_at time s }
 -- a span opens at its start
 abbrev pub opened : Waiting → TreeState → TreeState
 opened span s =
-    record (told (span_call (moment_at span.start s) span.name span.fields span.above) s) {
+    record (emitted (span_call (moment_at span.start s) span.name span.fields span.parent) s) {
       next = one_more s.next;
     }
 
@@ -99,13 +99,13 @@ with_settled (Some span) s = opened span (record s { waiting = None })
 abbrev pub settled : TreeState → TreeState
 settled s = with_settled s.waiting s
 
-abbrev pub event_told : List Field → Option Id → TreeState → TreeState
-event_told fields above s = told (event_call s.moment Info fields above) (settled s)
+abbrev pub event_emitted : List Field → Option Id → TreeState → TreeState
+event_emitted fields parent s = emitted (event_call s.moment Info fields parent) (settled s)
 
 -- a leaf as an event at its start
 abbrev pub leaf_call : Waiting → TreeState → Call
 leaf_call span s =
-    event_call (moment_at span.start s) Info (message_field span.name ∷ span.fields) span.above
+    event_call (moment_at span.start s) Info (message_field span.name ∷ span.fields) span.parent
 
 -- ---- what is open
 
@@ -125,17 +125,17 @@ abbrev pub current_end : TreeState → Option Point
 current_end s = end_on_top s.frames
 
 abbrev pub waiting_in : Option Id → List ℕ → List Field → ℕ → Waiting
-waiting_in above name fields start = record {
+waiting_in parent name fields start = record {
   start = start;
   name = name;
   fields = fields;
-  above = above;
+  parent = parent;
 }
 
 abbrev pub put_in : Option Id → List ℕ → List Field → ℕ → Option Point → TreeState → TreeState
-put_in above name fields start end s = record s {
-  frames = frame_of (Some (id_of s.next)) above end ∷ s.frames;
-  waiting = Some (waiting_in above name fields start);
+put_in parent name fields start end s = record s {
+  frames = frame_of (Some (id_of s.next)) parent end ∷ s.frames;
+  waiting = Some (waiting_in parent name fields start);
 }
 
 -- a span that starts at this time is the innermost one, and may be a leaf
@@ -171,10 +171,10 @@ abbrev pub length_field : ℕ → Field
 length_field nanoseconds = rendered_field (codes "time") (length_text nanoseconds)
 
 -- a span from which spans were left out says how many, and how long they took together
-abbrev pub left_out_told : Frame → TreeState → TreeState
-left_out_told frame s =
+abbrev pub left_out_emitted : Frame → TreeState → TreeState
+left_out_emitted frame s =
     if frame.left.spans == 0 then s
-    else event_told
+    else event_emitted
     (message_field (codes "left out") ∷ whole_field (codes "spans") (pos frame.left.spans)
     ∷ length_field frame.left.time ∷ []) frame.id s
 
@@ -183,19 +183,19 @@ at_end (Some end) s = at_moment end.time s
 at_end None s = s
 
 abbrev pub closed : Option Id → Option Id → TreeState → TreeState
-closed (Some id) above s = told (close_call s.moment id above) s
-closed None above s = s
+closed (Some id) parent s = emitted (close_call s.moment id parent) s
+closed None parent s = s
 
 abbrev pub closed_as : Option Waiting → Frame → TreeState → TreeState
-closed_as None frame s = closed frame.id frame.above s
-closed_as (Some span) frame s = told (leaf_call span s) (record s { waiting = None })
+closed_as None frame s = closed frame.id frame.parent s
+closed_as (Some span) frame s = emitted (leaf_call span s) (record s { waiting = None })
 
 -- a span closes, or it is a leaf
 abbrev pub closed_or_leaf : Frame → TreeState → TreeState
 closed_or_leaf frame s = closed_as s.waiting frame s
 
 abbrev pub left : Frame → TreeState → TreeState
-left frame s = closed_or_leaf frame (left_out_told frame (at_end frame.end s))
+left frame s = closed_or_leaf frame (left_out_emitted frame (at_end frame.end s))
 
 -- spans are left from the innermost on
 abbrev pub left_while : Until → List Frame → TreeState → TreeState
@@ -220,12 +220,12 @@ text_in name = name.text
 abbrev pub is_of_lane : Lane → Name → Bool
 is_of_lane lane name = same_lane name.lane lane
 
-abbrev pub told_name : List Name → Lane → Option (List ℕ)
-told_name names lane = option_map text_in (find (is_of_lane lane) (reverse names))
+abbrev pub emitted_name : List Name → Lane → Option (List ℕ)
+emitted_name names lane = option_map text_in (find (is_of_lane lane) (reverse names))
 
 -- the name of a process or a thread, by the last element that names it
 abbrev pub name_in : List Name → Lane → List ℕ → List ℕ
-name_in names lane unnamed = unwrap_or (told_name names lane) unnamed
+name_in names lane unnamed = unwrap_or (emitted_name names lane) unnamed
 
 -- the count of levels above the threads of a process
 abbrev pub process_depth : Lane → ℕ
@@ -279,17 +279,17 @@ entered lane time s =
 -- ---- items
 
 abbrev pub within : Point → Option Point → Point
-within end (Some above) = if is_by end above then end else above
+within end (Some parent) = if is_by end parent then end else parent
 within end None = end
 
 abbrev pub end_as : Shape → Item → Option Point → Option Point
-end_as Event item above = above
-end_as Whole item above = Some (within item.end above)
-end_as Unended item above = above
+end_as Event item parent = parent
+end_as Whole item parent = Some (within item.end parent)
+end_as Unended item parent = parent
 
 -- where a span ends: at the latest where the one above does
 abbrev pub span_end : Item → Option Point → Option Point
-span_end item above = end_as item.shape item above
+span_end item parent = end_as item.shape item parent
 
 abbrev pub fields_as : Shape → Item → List Field
 fields_as Event item = []
@@ -351,7 +351,7 @@ abbrev pub span_placed : Item → TreeState → TreeState
 span_placed item s = if fits s then span_shown item s else left_out item s
 
 abbrev pub event_shown : Item → TreeState → TreeState
-event_shown item s = event_told (message_field item.name ∷ item.fields) (current s) s
+event_shown item s = event_emitted (message_field item.name ∷ item.fields) (current s) s
 
 abbrev pub placed_as : Shape → Item → TreeState → TreeState
 placed_as Event item s = event_shown item s

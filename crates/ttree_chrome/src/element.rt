@@ -9,9 +9,9 @@ use json::Value;
 use std::alloc::{AllocError, Global};
 use tracing_tree_base::field::{Field, Fields};
 use tracing_tree_base::text::Text;
+use ttree_source::calls::shown;
 use ttree_source::fields::event_fields;
-use ttree_source::notes::Lack;
-use ttree_source::told::shown;
+use ttree_source::notes::Problem;
 use ttree_source::values::text_at;
 
 // What identifies a process or a thread.
@@ -86,11 +86,11 @@ enum Naming {
 pub(crate) fn element_of(
     alloc: Global,
     value: &Value<'_>,
-) -> Result<Result<Element, Lack>, AllocError>
+) -> Result<Result<Element, Problem>, AllocError>
     ensures { IfOk result (λ element. element ≡ element_of (value_view value.now)) }
 {
     let Some(phase) = text_at(value, "ph") else {
-        return Ok(Err(Lack::Phase));
+        return Ok(Err(Problem::Phase));
     };
     if phase == "M" {
         return named_in(alloc, value);
@@ -125,7 +125,7 @@ fn async_in(
     alloc: Global,
     track: Track,
     value: &Value<'_>,
-) -> Result<Result<Element, Lack>, AllocError>
+) -> Result<Result<Element, Problem>, AllocError>
     ensures { IfOk result (λ element. element ≡ async_in track (value_view value.now)) }
 {
     match entry_in(alloc, value)? {
@@ -133,7 +133,7 @@ fn async_in(
             let entry = with_id(alloc, track, entry, value)?;
             Ok(Ok(Element::Async(track, entry, track_in(alloc, value)?)))
         }
-        Err(lack) => Ok(Err(lack)),
+        Err(problem) => Ok(Err(problem)),
     }
 }
 
@@ -219,16 +219,16 @@ fn timed_in(
     alloc: Global,
     phase: Phase,
     value: &Value<'_>,
-) -> Result<Result<Element, Lack>, AllocError>
+) -> Result<Result<Element, Problem>, AllocError>
     ensures { IfOk result (λ element. element ≡ timed_in phase (value_view value.now)) }
 {
     match entry_in(alloc, value)? {
         Ok(entry) => Ok(phased(phase, entry, value)),
-        Err(lack) => Ok(Err(lack)),
+        Err(problem) => Ok(Err(problem)),
     }
 }
 
-fn phased(phase: Phase, entry: Entry, value: &Value<'_>) -> Result<Element, Lack>
+fn phased(phase: Phase, entry: Entry, value: &Value<'_>) -> Result<Element, Problem>
     ensures { result ≡ phased phase entry (value_view value.now) }
 {
     match phase {
@@ -240,25 +240,25 @@ fn phased(phase: Phase, entry: Entry, value: &Value<'_>) -> Result<Element, Lack
 }
 
 // Returns a span of this length in nanoseconds.
-fn span_of(entry: Entry, length: Option<u64>) -> Result<Element, Lack>
+fn span_of(entry: Entry, length: Option<u64>) -> Result<Element, Problem>
     ensures { result ≡ span_of entry length }
 {
     let Some(length) = length else {
-        return Err(Lack::Duration);
+        return Err(Problem::Duration);
     };
     let end = entry.start.saturating_add(length);
     Ok(Element::Span(entry, end))
 }
 
-fn entry_in(alloc: Global, value: &Value<'_>) -> Result<Result<Entry, Lack>, AllocError>
+fn entry_in(alloc: Global, value: &Value<'_>) -> Result<Result<Entry, Problem>, AllocError>
     ensures { IfOk result (λ entry. entry ≡ entry_in (value_view value.now)) }
 {
     let owner = match owner_in(alloc, value)? {
         Ok(owner) => owner,
-        Err(lack) => return Ok(Err(lack)),
+        Err(problem) => return Ok(Err(problem)),
     };
     let Some(start) = time_at(value, "ts") else {
-        return Ok(Err(Lack::Start));
+        return Ok(Err(Problem::Start));
     };
     Ok(Ok(Entry {
         owner,
@@ -269,7 +269,7 @@ fn entry_in(alloc: Global, value: &Value<'_>) -> Result<Result<Entry, Lack>, All
 }
 
 // Reads an element of metadata, which may name its process or its thread.
-fn named_in(alloc: Global, value: &Value<'_>) -> Result<Result<Element, Lack>, AllocError>
+fn named_in(alloc: Global, value: &Value<'_>) -> Result<Result<Element, Problem>, AllocError>
     ensures { IfOk result (λ element. element ≡ named_in (value_view value.now)) }
 {
     let Some(naming) = naming_of(name_in(value)) else {
@@ -280,7 +280,7 @@ fn named_in(alloc: Global, value: &Value<'_>) -> Result<Result<Element, Lack>, A
     };
     match owner_in(alloc, value)? {
         Ok(owner) => Ok(Ok(named_as(naming, owner, Text::from_str(alloc, text)?))),
-        Err(lack) => Ok(Err(lack)),
+        Err(problem) => Ok(Err(problem)),
     }
 }
 
@@ -333,16 +333,16 @@ fn fields_in(alloc: Global, value: &Value<'_>) -> Result<Fields, AllocError>
 }
 
 // Returns the process and the thread of an element.
-fn owner_in(alloc: Global, value: &Value<'_>) -> Result<Result<Owner, Lack>, AllocError>
+fn owner_in(alloc: Global, value: &Value<'_>) -> Result<Result<Owner, Problem>, AllocError>
     ensures { IfOk result (λ owner. owner ≡ owner_in (value_view value.now)) }
 {
-    let process = match ident_at(alloc, value, "pid", Lack::Process)? {
+    let process = match ident_at(alloc, value, "pid", Problem::Process)? {
         Ok(process) => process,
-        Err(lack) => return Ok(Err(lack)),
+        Err(problem) => return Ok(Err(problem)),
     };
-    match ident_at(alloc, value, "tid", Lack::Thread)? {
+    match ident_at(alloc, value, "tid", Problem::Thread)? {
         Ok(thread) => Ok(Ok(Owner { process, thread })),
-        Err(lack) => Ok(Err(lack)),
+        Err(problem) => Ok(Err(problem)),
     }
 }
 
@@ -352,12 +352,12 @@ fn ident_at(
     alloc: Global,
     value: &Value<'_>,
     key: &str,
-    lack: Lack,
-) -> Result<Result<Option<Ident>, Lack>, AllocError>
-    ensures { IfOk result (λ ident. ident ≡ ident_at key.now lack (value_view value.now)) }
+    problem: Problem,
+) -> Result<Result<Option<Ident>, Problem>, AllocError>
+    ensures { IfOk result (λ ident. ident ≡ ident_at key.now problem (value_view value.now)) }
 {
     match value.get(key) {
-        Some(found) => ident_in(alloc, found, lack),
+        Some(found) => ident_in(alloc, found, problem),
         None => Ok(Ok(None)),
     }
 }
@@ -365,18 +365,18 @@ fn ident_at(
 fn ident_in(
     alloc: Global,
     value: &Value<'_>,
-    lack: Lack,
-) -> Result<Result<Option<Ident>, Lack>, AllocError>
-    ensures { IfOk result (λ ident. ident ≡ ident_in lack (value_view value.now)) }
+    problem: Problem,
+) -> Result<Result<Option<Ident>, Problem>, AllocError>
+    ensures { IfOk result (λ ident. ident ≡ ident_in problem (value_view value.now)) }
 {
     match value {
         Value::Null => Ok(Ok(None)),
         Value::Number(text) => match integer_of(text) {
             Some(found) => Ok(Ok(Some(Ident::Number(found)))),
-            None => Ok(Err(lack)),
+            None => Ok(Err(problem)),
         },
         Value::String(text) => Ok(Ok(Some(Ident::Name(Text::from_str(alloc, text)?)))),
-        _ => Ok(Err(lack)),
+        _ => Ok(Err(problem)),
     }
 }
 

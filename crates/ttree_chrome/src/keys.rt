@@ -7,7 +7,7 @@ use std::alloc::{AllocError, Global};
 use std::collections::BTreeMap;
 use std::marker::Model;
 
-// The numbers of keys, counted from 0 in the order in which they appear.
+// The numbers of keys, counted from 0 in order of appearance.
 #[derive(Drop)]
 pub(crate) struct Keys {
     alloc: Global,

@@ -7,23 +7,27 @@ use crate::gather::{Item, Later, Shape, none_later, same_lane};
 use std::alloc::{AllocError, Global};
 
 // Returns whether an item is drawn, given the shortest span that is drawn.
-pub(crate) fn is_long(item: &Item, least: u64) -> bool
-    ensures { result ≡ is_long item.now least }
+pub(crate) fn is_long(item: &Item, min_duration: u64) -> bool
+    ensures { result ≡ is_long item.now min_duration }
 {
     match item.shape {
-        Shape::Whole => item.end.time.saturating_sub(item.start.time) >= least,
+        Shape::Whole => item.end.time.saturating_sub(item.start.time) >= min_duration,
         Shape::Event | Shape::Unended => true,
     }
 }
 
 // Sets in each item whether one of those after it is drawn. Returns the items in reverse order.
-pub(crate) fn marked(alloc: Global, items: Vec<Item>, least: u64) -> Result<Vec<Item>, AllocError>
-    ensures { IfOk result (λ all. reverse all.items ≡ marked least items.items) }
+pub(crate) fn marked(
+    alloc: Global,
+    items: Vec<Item>,
+    min_duration: u64,
+) -> Result<Vec<Item>, AllocError>
+    ensures { IfOk result (λ all. reverse all.items ≡ marked min_duration items.items) }
 {
     let mut items = items;
     let mut all = Vec::with_capacity(alloc, items.len())?;
     while let Some(item) = items.pop() {
-        let later = later_by(&item, all.as_slice(), least);
+        let later = later_by(&item, all.as_slice(), min_duration);
         all.push(noted(item, later))?;
     }
     Ok(all)
@@ -38,13 +42,13 @@ fn noted(item: Item, later: Later) -> Item
 }
 
 // Returns what comes after an item, given those after it in reverse order.
-fn later_by(item: &Item, all: &[Item], least: u64) -> Later
-    ensures { result ≡ later_by least item.now (first_of (reverse all.now)) }
+fn later_by(item: &Item, all: &[Item], min_duration: u64) -> Later
+    ensures { result ≡ later_by min_duration item.now (first_of (reverse all.now)) }
 {
     let Some(next) = all.last() else {
         return none_later();
     };
-    let is_drawn = is_long(next, least);
+    let is_drawn = is_long(next, min_duration);
     Later {
         in_thread: same_lane(next.lane, item.lane) && (is_drawn || next.later.in_thread),
         in_process: next.lane.process == item.lane.process && (is_drawn || next.later.in_process),

@@ -9,7 +9,7 @@ use std::alloc::{AllocError, Global};
 use std::marker::Model;
 use tracing_tree_base::field::Field;
 use tracing_tree_base::text::Text;
-use ttree_source::told::shown;
+use ttree_source::calls::shown;
 
 // What identifies a process or a thread: a number, or a string by its number.
 #[derive(Clone, Copy, PartialEq, Eq, PartialOrd, Ord)]
@@ -18,7 +18,7 @@ pub(crate) enum Label {
     Name(u64),
 }
 
-// The strings that identify processes and threads, in the order in which they appear.
+// The strings that identify processes and threads, in order of appearance.
 #[derive(Drop)]
 pub(crate) struct Strings {
     // The number of each string.

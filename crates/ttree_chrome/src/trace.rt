@@ -3,7 +3,7 @@
 ghost use Rattle.std.specs.Prelude.{◌≡◌, [], ◌∷◌, IfErr, IfOk, MatchResult, OnOk, Some, is_none, is_ok, true};
 ghost use Rattle.json.specs.Value.{items_view, value_view};
 ghost use Rattle.tracing_tree_layer.specs.Layer.Layers.{seen, Changes};
-ghost use Rattle.ttree_chrome.specs.Trace.{AreCallsOf, DrawsOrEnds, EndsHearing, EndsReading, RunsTrace, ended_run, heard_all, heard_as, heard_cut, heard_from, heard_in, heard_mended, heard_unknown, heard_value, nothing_heard_of};
+ghost use Rattle.ttree_chrome.specs.Trace.{AreCallsOf, DrawsOrEnds, EndsInterpreting, EndsReading, RunsTrace, ended_run, interpreted_all, interpreted_as, interpreted_cut, interpreted_from, interpreted_in, interpreted_mended, interpreted_unknown, interpreted_value, nothing_interpreted_of};
 ghost use Rattle.ttree_chrome.specs.Element.{element_of};
 ghost use Rattle.ttree_chrome.specs.Text.{elements_in};
 ghost use Rattle.ttree_chrome.specs.Notes.{IsNoted, cut_notes, element_note, element_notes, mended_notes, notes_in, trace_notes};
@@ -22,13 +22,13 @@ use tracing_tree_lines::lines::{LineCause, LineFault};
 use tracing_tree_output::Output;
 use tracing_tree_time::{FormatTime, Moment};
 use ttree_source::cut::Cut;
-use ttree_source::notes::{Lack, Notes};
+use ttree_source::notes::{Notes, Problem};
 use ttree_source::run::{SourceRun, draw_calls, skip};
 use ttree_source::values::value_of;
 
 // What was read of a trace so far.
 #[derive(Drop)]
-struct Heard {
+struct Interpreted {
     gathered: Gathered,
     // The number of unknown elements.
     unknown: u64,
@@ -79,11 +79,11 @@ pub fn run_trace<W: Output, FT: FormatTime, N: Notes>(
     ensures noted { IsNoted (notes_in text.now) (is_none result.run.fault) 0 result.run.unknown
         (N.noted notes.old) (N.noted notes.new) }
 {
-    let mut heard = Heard::new(alloc);
-    if let Err(cause) = hear(alloc, text, &mut heard, notes) {
-        return ended(heard.unknown, cause, 0);
+    let mut interpreted = Interpreted::new(alloc);
+    if let Err(cause) = interpret(alloc, text, &mut interpreted, notes) {
+        return ended(interpreted.unknown, cause, 0);
     }
-    let Heard { gathered, unknown } = heard;
+    let Interpreted { gathered, unknown } = interpreted;
     let undrawn = gathered.undrawn;
     match draw(alloc, next, moment, cut, leaves, gathered, layered) {
         Ok(()) => TraceRun {
@@ -125,22 +125,22 @@ pub fn trace_calls<N: Notes>(
     notes: &mut N,
 ) -> TraceCalls
     ensures read { MatchResult result.calls
-        (λ calls. AreCallsOf next moment cut leaves (heard_in text.now).gathered calls.items
-        × (result.unknown ≡ (heard_in text.now).unknown)
-        × (result.undrawn ≡ (heard_in text.now).gathered.undrawn))
-        (λ cause. EndsReading cause result.unknown (heard_in text.now) × (result.undrawn ≡ 0)) }
+        (λ calls. AreCallsOf next moment cut leaves (interpreted_in text.now).gathered calls.items
+        × (result.unknown ≡ (interpreted_in text.now).unknown)
+        × (result.undrawn ≡ (interpreted_in text.now).gathered.undrawn))
+        (λ cause. EndsReading cause result.unknown (interpreted_in text.now) × (result.undrawn ≡ 0)) }
     ensures noted { IsNoted (notes_in text.now) (is_ok result.calls) 0 result.unknown
         (N.noted notes.old) (N.noted notes.new) }
 {
-    let mut read = Heard::new(alloc);
-    if let Err(cause) = hear(alloc, text, &mut read, notes) {
+    let mut read = Interpreted::new(alloc);
+    if let Err(cause) = interpret(alloc, text, &mut read, notes) {
         return TraceCalls {
             calls: Err(cause),
             unknown: read.unknown,
             undrawn: 0,
         };
     }
-    let Heard {
+    let Interpreted {
         gathered,
         unknown: count,
     } = read;
@@ -228,59 +228,59 @@ fn calls_of(
 
 // Reads the elements of a trace.
 #[tactic(auto, using(crate::proofs::Noting::noted_not_yet))]
-fn hear<N: Notes>(
+fn interpret<N: Notes>(
     alloc: Global,
     text: &str,
-    heard: &mut Heard,
+    interpreted: &mut Interpreted,
     notes: &mut N,
 ) -> Result<(), LineCause>
-    ensures heard { OnOk result (heard.new ≡ heard_from text.now heard.old) }
-    ensures ended { IfErr result (λ cause. EndsHearing cause heard.new (heard_from text.now
-        heard.old)) }
-    ensures noted { IsNoted (notes_in text.now) (is_ok result) heard.old.unknown heard.new.unknown
+    ensures interpreted { OnOk result (interpreted.new ≡ interpreted_from text.now interpreted.old) }
+    ensures ended { IfErr result (λ cause. EndsInterpreting cause interpreted.new (interpreted_from text.now
+        interpreted.old)) }
+    ensures noted { IsNoted (notes_in text.now) (is_ok result) interpreted.old.unknown interpreted.new.unknown
         (N.noted notes.old) (N.noted notes.new) }
 {
     let mut scratch = Scratch::new(alloc);
     match value_of(alloc, text, &mut scratch)? {
-        Some(value) => heard.take_value(alloc, &value, false, notes),
-        None => hear_mended(alloc, text, heard, notes),
+        Some(value) => interpreted.take_value(alloc, &value, false, notes),
+        None => interpret_mended(alloc, text, interpreted, notes),
     }
 }
 
 // Reads the elements of a truncated trace.
 #[tactic(auto, using(crate::proofs::Noting::noted_less, crate::proofs::Noting::noted_not_yet))]
-fn hear_mended<N: Notes>(
+fn interpret_mended<N: Notes>(
     alloc: Global,
     text: &str,
-    heard: &mut Heard,
+    interpreted: &mut Interpreted,
     notes: &mut N,
 ) -> Result<(), LineCause>
-    ensures heard { OnOk result (heard.new ≡ heard_mended text.now heard.old) }
-    ensures ended { IfErr result (λ cause. EndsHearing cause heard.new (heard_mended text.now
-        heard.old)) }
-    ensures noted { IsNoted (mended_notes text.now) (is_ok result) heard.old.unknown
-        heard.new.unknown (N.noted notes.old) (N.noted notes.new) }
+    ensures interpreted { OnOk result (interpreted.new ≡ interpreted_mended text.now interpreted.old) }
+    ensures ended { IfErr result (λ cause. EndsInterpreting cause interpreted.new (interpreted_mended text.now
+        interpreted.old)) }
+    ensures noted { IsNoted (mended_notes text.now) (is_ok result) interpreted.old.unknown
+        interpreted.new.unknown (N.noted notes.old) (N.noted notes.new) }
 {
     let mended = mended(alloc, text)?;
     let mut scratch = Scratch::new(alloc);
     match value_of(alloc, mended.text.as_str(), &mut scratch)? {
-        Some(value) => heard.take_value(alloc, &value, mended.is_cut, notes),
-        None => heard.lose(1, Lack::Trace, notes),
+        Some(value) => interpreted.take_value(alloc, &value, mended.is_cut, notes),
+        None => interpreted.lose(1, Problem::Trace, notes),
     }
 }
 
-impl Heard {
-    fn new(alloc: Global) -> Heard
-        ensures { result ≡ nothing_heard_of }
+impl Interpreted {
+    fn new(alloc: Global) -> Interpreted
+        ensures { result ≡ nothing_interpreted_of }
     {
-        Heard {
+        Interpreted {
             gathered: Gathered::new(alloc),
             unknown: 0,
         }
     }
 
     // Reads the elements of a value. If it was truncated, one more element is lost.
-    #[tactic(auto, using(crate::proofs::Hearing::ends_before_cut, crate::proofs::Noting::noted_among, crate::proofs::Noting::noted_one, crate::proofs::Noting::noted_then))]
+    #[tactic(auto, using(crate::proofs::Interpreting::ends_before_cut, crate::proofs::Noting::noted_among, crate::proofs::Noting::noted_one, crate::proofs::Noting::noted_then))]
     fn take_value<N: Notes>(
         &mut self,
         alloc: Global,
@@ -288,15 +288,15 @@ impl Heard {
         is_cut: bool,
         notes: &mut N,
     ) -> Result<(), LineCause>
-        ensures heard { OnOk result (self.new ≡ heard_value is_cut (value_view value.now) self.old) }
-        ensures ended { IfErr result (λ cause. EndsHearing cause self.new
-            (heard_value is_cut (value_view value.now) self.old)) }
+        ensures interpreted { OnOk result (self.new ≡ interpreted_value is_cut (value_view value.now) self.old) }
+        ensures ended { IfErr result (λ cause. EndsInterpreting cause self.new
+            (interpreted_value is_cut (value_view value.now) self.old)) }
         ensures noted { IsNoted (trace_notes is_cut (elements_in (value_view value.now)))
             (is_ok result) self.old.unknown self.new.unknown (N.noted notes.old)
             (N.noted notes.new) }
     {
         let Some(elements) = elements_in(value) else {
-            return self.lose(1, Lack::Trace, notes);
+            return self.lose(1, Problem::Trace, notes);
         };
         self.take_all(alloc, elements, notes)?;
         self.lose_cut(is_cut, elements.len(), notes)
@@ -308,9 +308,9 @@ impl Heard {
         elements: &Vec<Value<'_>>,
         notes: &mut N,
     ) -> Result<(), LineCause>
-        ensures heard { OnOk result (self.new ≡ heard_all (items_view elements.now.items) self.old) }
-        ensures ended { IfErr result (λ cause. EndsHearing cause self.new
-            (heard_all (items_view elements.now.items) self.old)) }
+        ensures interpreted { OnOk result (self.new ≡ interpreted_all (items_view elements.now.items) self.old) }
+        ensures ended { IfErr result (λ cause. EndsInterpreting cause self.new
+            (interpreted_all (items_view elements.now.items) self.old)) }
         ensures noted { IsNoted (element_notes 1 (items_view elements.now.items)) (is_ok result)
             self.old.unknown self.new.unknown (N.noted notes.old) (N.noted notes.new) }
     {
@@ -331,17 +331,17 @@ impl Heard {
         number: u64,
         notes: &mut N,
     ) -> Result<(), LineCause>
-        ensures heard { OnOk result (self.new ≡ heard_as (element_of (value_view element.now))
+        ensures interpreted { OnOk result (self.new ≡ interpreted_as (element_of (value_view element.now))
             self.old) }
-        ensures ended { IfErr result (λ cause. EndsHearing cause self.new
-            (heard_as (element_of (value_view element.now)) self.old)) }
+        ensures ended { IfErr result (λ cause. EndsInterpreting cause self.new
+            (interpreted_as (element_of (value_view element.now)) self.old)) }
         ensures noted { IsNoted (element_note number (element_of (value_view element.now)))
             (is_ok result) self.old.unknown self.new.unknown (N.noted notes.old)
             (N.noted notes.new) }
     {
         match element_of(alloc, element)? {
             Ok(element) => Ok(self.gathered.take(element)?),
-            Err(lack) => self.lose(number, lack, notes),
+            Err(problem) => self.lose(number, problem, notes),
         }
     }
 
@@ -353,8 +353,8 @@ impl Heard {
         count: usize,
         notes: &mut N,
     ) -> Result<(), LineCause>
-        ensures heard { OnOk result (self.new ≡ heard_cut is_cut self.old) }
-        ensures ended { IfErr result (λ cause. EndsHearing cause self.new (heard_cut is_cut
+        ensures interpreted { OnOk result (self.new ≡ interpreted_cut is_cut self.old) }
+        ensures ended { IfErr result (λ cause. EndsInterpreting cause self.new (interpreted_cut is_cut
             self.old)) }
         ensures noted { IsNoted (cut_notes is_cut count) (is_ok result) self.old.unknown
             self.new.unknown (N.noted notes.old) (N.noted notes.new) }
@@ -363,18 +363,23 @@ impl Heard {
             return Ok(());
         }
         let last = (count as u64).saturating_add(1);
-        self.lose(last, Lack::Object, notes)
+        self.lose(last, Problem::Object, notes)
     }
 
     // Counts and notes an unknown element. An error ends the run.
-    #[tactic(auto, using(crate::proofs::Hearing::ends_unknown, crate::proofs::Noting::noted_one))]
-    fn lose<N: Notes>(&mut self, number: u64, lack: Lack, notes: &mut N) -> Result<(), LineCause>
-        ensures heard { self.new ≡ heard_unknown self.old }
-        ensures ended { IfErr result (λ cause. EndsHearing cause self.new (heard_unknown self.old)) }
-        ensures noted { IsNoted ((number, lack) ∷ []) true self.old.unknown self.new.unknown
+    #[tactic(auto, using(crate::proofs::Interpreting::ends_unknown, crate::proofs::Noting::noted_one))]
+    fn lose<N: Notes>(
+        &mut self,
+        number: u64,
+        problem: Problem,
+        notes: &mut N,
+    ) -> Result<(), LineCause>
+        ensures interpreted { self.new ≡ interpreted_unknown self.old }
+        ensures ended { IfErr result (λ cause. EndsInterpreting cause self.new (interpreted_unknown self.old)) }
+        ensures noted { IsNoted ((number, problem) ∷ []) true self.old.unknown self.new.unknown
             (N.noted notes.old) (N.noted notes.new) }
     {
         self.unknown = self.unknown.saturating_add(1);
-        skip(notes, number, Ok(lack), &[])
+        skip(notes, number, Ok(problem), &[])
     }
 }

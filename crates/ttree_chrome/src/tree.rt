@@ -1,9 +1,9 @@
 //! Turns the spans of a trace, nested by time, and its events into calls.
 
 ghost use Rattle.std.specs.Prelude.{◌≡◌, ◌∷◌, [], drop, IfOk, None, OnOk, option_map, reverse};
-ghost use Rattle.ttree_source.specs.Told.{message_field};
+ghost use Rattle.ttree_source.specs.Calls.{message_field};
 ghost use Rattle.ttree_chrome.specs.Later.{marked};
-ghost use Rattle.ttree_chrome.specs.Tree.{added, at_moment, begun_tree, clock_start, closed_or_leaf, counted_until, current, current_end, entered, entered_process, entered_thread, event_shown, event_told, extent, finished, fits, frame_of, is_by, is_in_process, is_lane, is_left, is_of_lane, lane_opened, leaf_call, leaving, leaving_count, left, left_out, left_out_told, left_while, length_field, may_be_leaf, moment_at, name_in, opened, passed_over, placed, process_depth, process_opened, put, settled, shown_lane, span_end, span_fields, span_placed, span_put, span_shown, stepped, stepped_all, told, told_name, within};
+ghost use Rattle.ttree_chrome.specs.Tree.{added, at_moment, begun_tree, clock_start, closed_or_leaf, counted_until, current, current_end, entered, entered_process, entered_thread, event_shown, event_emitted, extent, finished, fits, frame_of, is_by, is_in_process, is_lane, is_left, is_of_lane, lane_opened, leaf_call, leaving, leaving_count, left, left_out, left_out_emitted, left_while, length_field, may_be_leaf, moment_at, name_in, opened, passed_over, placed, process_depth, process_opened, put, settled, shown_lane, span_end, span_fields, span_placed, span_put, span_shown, stepped, stepped_all, emitted, emitted_name, within};
 
 use crate::gather::{Item, Lane, Name, Point, Shape, process_of, same_lane};
 use crate::later::{is_long, marked};
@@ -18,9 +18,9 @@ use tracing_tree_base::style::Level;
 use tracing_tree_base::text::Text;
 use tracing_tree_layer::call::Call;
 use tracing_tree_time::Moment;
+use ttree_source::calls::{close_call, event_call, message_field, span_call};
 use ttree_source::cut::Cut;
 use ttree_source::length::length_text;
-use ttree_source::told::{close_call, event_call, message_field, span_call};
 
 // How many spans were left out in a span, and how long they took together, in nanoseconds.
 #[derive(Clone, Copy)]
@@ -36,7 +36,7 @@ struct Left {
 #[derive(Clone, Copy)]
 struct Frame {
     id: Option<Id>,
-    above: Option<Id>,
+    parent: Option<Id>,
     // `None` if it lasts as long as its thread or its process.
     end: Option<Point>,
     left: Left,
@@ -48,7 +48,7 @@ struct Waiting {
     start: u64,
     name: Text,
     fields: Fields,
-    above: Option<Id>,
+    parent: Option<Id>,
 }
 
 // The names of processes and threads, and the strings that identify them.
@@ -75,7 +75,7 @@ pub(crate) struct Tree {
     // The id of the next span.
     next: u64,
     moment: Moment,
-    // The time at which the clock of the drawing starts.
+    // The start of the drawing's clock.
     origin: u64,
     cut: Cut,
     leaves: Leaves,
@@ -300,14 +300,14 @@ impl Tree {
     ) -> Result<(), AllocError>
         ensures { OnOk result (self.new ≡ put name fields start end self.old) }
     {
-        let above = self.current();
+        let parent = self.current();
         self.settle()?;
-        self.push(frame_of(Some(Id(self.next)), above, end))?;
+        self.push(frame_of(Some(Id(self.next)), parent, end))?;
         self.waiting = Some(Waiting {
             start,
             name,
             fields,
-            above,
+            parent,
         });
         Ok(())
     }
@@ -329,10 +329,10 @@ impl Tree {
             start,
             name,
             fields,
-            above,
+            parent,
         } = span;
         let moment = self.moment_at(start);
-        let call = span_call(self.alloc, moment, name.as_str(), fields, above)?;
+        let call = span_call(self.alloc, moment, name.as_str(), fields, parent)?;
         self.calls.push(call)?;
         self.next = self.next.saturating_add(1);
         Ok(())
@@ -390,7 +390,7 @@ impl Tree {
         if let Some(end) = frame.end {
             self.go_to(end.time);
         }
-        self.tell_left_out(&frame)?;
+        self.emit_left_out(&frame)?;
         self.close(&frame)
     }
 
@@ -402,30 +402,30 @@ impl Tree {
             return self.show_leaf(span);
         }
         if let Some(id) = frame.id {
-            self.calls.push(close_call(self.moment, id, frame.above))?;
+            self.calls.push(close_call(self.moment, id, frame.parent))?;
         }
         Ok(())
     }
 
     // Draws a leaf as an event at its start.
     fn show_leaf(&mut self, span: Waiting) -> Result<(), AllocError>
-        ensures { OnOk result (self.new ≡ told (leaf_call span self.old) self.old) }
+        ensures { OnOk result (self.new ≡ emitted (leaf_call span self.old) self.old) }
     {
         let Waiting {
             start,
             name,
             fields,
-            above,
+            parent,
         } = span;
         let moment = self.moment_at(start);
         let fields = with_message(self.alloc, name.as_str(), fields)?;
-        let call = event_call(self.alloc, moment, Level::Info, fields, above)?;
+        let call = event_call(self.alloc, moment, Level::Info, fields, parent)?;
         Ok(self.calls.push(call)?)
     }
 
     // Records how many spans were left out, if there are any.
-    fn tell_left_out(&mut self, frame: &Frame) -> Result<(), AllocError>
-        ensures { OnOk result (self.new ≡ left_out_told frame.now self.old) }
+    fn emit_left_out(&mut self, frame: &Frame) -> Result<(), AllocError>
+        ensures { OnOk result (self.new ≡ left_out_emitted frame.now self.old) }
     {
         if frame.left.spans == 0 {
             return Ok(());
@@ -437,11 +437,11 @@ impl Tree {
         self.push_event(Fields::from(fields), frame.id)
     }
 
-    fn push_event(&mut self, fields: Fields, above: Option<Id>) -> Result<(), AllocError>
-        ensures { OnOk result (self.new ≡ event_told fields above self.old) }
+    fn push_event(&mut self, fields: Fields, parent: Option<Id>) -> Result<(), AllocError>
+        ensures { OnOk result (self.new ≡ event_emitted fields parent self.old) }
     {
         self.settle()?;
-        let call = event_call(self.alloc, self.moment, Level::Info, fields, above)?;
+        let call = event_call(self.alloc, self.moment, Level::Info, fields, parent)?;
         Ok(self.calls.push(call)?)
     }
 
@@ -468,8 +468,8 @@ impl Tree {
             later: _,
         } = item;
         let fields = with_message(self.alloc, name.as_str(), fields)?;
-        let above = self.current();
-        self.push_event(fields, above)
+        let parent = self.current();
+        self.push_event(fields, parent)
     }
 
     // Draws a span, or leaves it out.
@@ -523,12 +523,12 @@ impl Tree {
     }
 }
 
-fn frame_of(id: Option<Id>, above: Option<Id>, end: Option<Point>) -> Frame
-    ensures { result ≡ frame_of id above end }
+fn frame_of(id: Option<Id>, parent: Option<Id>, end: Option<Point>) -> Frame
+    ensures { result ≡ frame_of id parent end }
 {
     Frame {
         id,
-        above,
+        parent,
         end,
         left: Left {
             spans: 0,
@@ -626,14 +626,14 @@ fn process_depth(lane: Lane) -> usize
 fn name_in<'n>(names: &'n [Name], lane: Lane, unnamed: &'n str) -> &'n str
     ensures { result.now ≡ name_in names.now lane unnamed.now }
 {
-    match told_name(names, lane) {
+    match emitted_name(names, lane) {
         Some(name) => name,
         None => unnamed,
     }
 }
 
-fn told_name<'n>(names: &'n [Name], lane: Lane) -> Option<&'n str>
-    ensures { option_map (λ t. t.now) result ≡ told_name names.now lane }
+fn emitted_name<'n>(names: &'n [Name], lane: Lane) -> Option<&'n str>
+    ensures { option_map (λ t. t.now) result ≡ emitted_name names.now lane }
 {
     let found = names.iter().rev().find(|name| {
         let name: &Name = name;
@@ -649,20 +649,20 @@ fn is_of_lane(name: &Name, lane: Lane) -> bool
 }
 
 // Returns the end of a span, which is never after its parent's.
-fn span_end(item: &Item, above: Option<Point>) -> Option<Point>
-    ensures { result ≡ span_end item.now above }
+fn span_end(item: &Item, parent: Option<Point>) -> Option<Point>
+    ensures { result ≡ span_end item.now parent }
 {
     match item.shape {
-        Shape::Whole => Some(within(item.end, above)),
-        Shape::Event | Shape::Unended => above,
+        Shape::Whole => Some(within(item.end, parent)),
+        Shape::Event | Shape::Unended => parent,
     }
 }
 
-fn within(end: Point, above: Option<Point>) -> Point
-    ensures { result ≡ within end above }
+fn within(end: Point, parent: Option<Point>) -> Point
+    ensures { result ≡ within end parent }
 {
-    match above {
-        Some(above) => { if is_by(end, above) { end } else { above } }
+    match parent {
+        Some(parent) => { if is_by(end, parent) { end } else { parent } }
         None => end,
     }
 }

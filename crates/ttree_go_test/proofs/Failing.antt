@@ -19,10 +19,10 @@ use Rattle.tracing_tree_base.specs.declared.style.Level.TheVariants.{Warn, Error
 use Rattle.tracing_tree_lines.specs.Lines.Spelled.{is_skipped}
 use Rattle.ttree_source.specs.Counts.{one_more}
 use Rattle.ttree_source.specs.Marks.{after_mark, begins, is_empty}
-use Rattle.ttree_source.specs.Source.{Heard, hear, hear_line, heard_step}
-use Rattle.ttree_source.specs.Told.{event_call, message_field}
+use Rattle.ttree_source.specs.Source.{Interpreted, interpret, interpret_line, interpreted_step}
+use Rattle.ttree_source.specs.Calls.{event_call, message_field}
 use Rattle.ttree_source.specs.Values.{text_at}
-use Rattle.ttree_go_test.specs.Failures.{has_begun, is_fail, is_failure, package_runs, some_failed, tells_failure}
+use Rattle.ttree_go_test.specs.Failures.{has_begun, is_fail, is_failure, package_runs, some_failed, emits_failure}
 use Rattle.ttree_go_test.specs.Names.{named, put, without}
 use Rattle.ttree_go_test.specs.Texts.{ends_line, is_frame, is_package_frame, own_name, up_to_space, without_line_end}
 use Rattle.ttree_go_test.specs.declared.go_test.builds.Build.{Build}
@@ -30,7 +30,7 @@ use Rattle.ttree_go_test.specs.declared.go_test.running.Kind.{Kind}
 use Rattle.ttree_go_test.specs.declared.go_test.running.Running.{Running}
 use Rattle.ttree_go_test.specs.declared.go_test.tally.Ending.{Ending}
 use Rattle.ttree_go_test.specs.declared.go_test.tally.Ending.TheVariants.{Passed, Failed, Skipped, Unfinished}
-use Rattle.ttree_go_test.specs.GoTest.{GoState, Held, Tests, above_held, acted, acted_for, all_ended, all_left_over, begun, begun_in, build_last, build_over, build_printed, build_printed_if, build_said, build_told, builds_said, builds_told, built_after, counted, elapsed_fields, elapsed_in, end_fields, ended, event_told, failed_counted, fails_as, finished, frame_printed, framed, go_takes, handed_out, has_failed, held, holds, is_aside, is_framing, kept, kind_in, left_as, left_one, left_over, level_of, level_of_build, level_of_line, level_of_text, line_of, line_told, more_printed, moved, noted, noted_left, nothing_run, one_ended, only_closed, opened, opened_as, owner, package_counted, package_ended, package_failed, package_left, package_of, package_over, package_started, packages_left, part_told, placed, printed, printed_if, quiet_told, ran, running_as, said, span_ended, started, string_printed, takes_failure, takes_heading, takes_json, takes_plain, takes_text, test_ended, test_of, tests_of, text_printed, texts_told, timed, told, told_of_build, without_build, without_heading, without_package, word_of}
+use Rattle.ttree_go_test.specs.GoTest.{GoState, Held, Tests, above_held, acted, acted_for, all_ended, all_left_over, begun, begun_in, build_last, build_over, build_printed, build_printed_if, build_said, build_emitted, builds_said, builds_emitted, built_after, counted, elapsed_fields, elapsed_in, end_fields, ended, event_emitted, failed_counted, fails_as, finished, frame_printed, framed, go_takes, handed_out, has_failed, held, holds, is_aside, is_framing, kept, kind_in, left_as, left_one, left_over, level_of, level_of_build, level_of_line, level_of_text, line_of, line_emitted, more_printed, moved, noted, noted_left, nothing_run, one_ended, only_closed, opened, opened_as, owner, package_counted, package_ended, package_failed, package_left, package_of, package_over, package_started, packages_left, part_emitted, placed, printed, printed_if, quiet_emitted, ran, running_as, said, span_ended, started, string_printed, takes_failure, takes_heading, takes_json, takes_plain, takes_text, test_ended, test_of, tests_of, text_printed, texts_emitted, timed, emitted, emitted_of_build, without_build, without_heading, without_package, word_of}
 
 -- ---- names
 
@@ -209,9 +209,9 @@ held_if false s h k i j = j
 
 -- ---- what is drawn
 
-event_stays : (level : Level) (text : List ℕ) (rest : List Field) (above : Option Id) (s : GoState) → Stays s (event_told level text rest above s)
-event_stays level text rest above s =
-    stays_if (is_skipped text) s s (told above (event_call s.moment level (message_field text ∷ rest) above) s) (same s) (record { failed = λ w. refl; named_too = λ w. w })
+event_stays : (level : Level) (text : List ℕ) (rest : List Field) (parent : Option Id) (s : GoState) → Stays s (event_emitted level text rest parent s)
+event_stays level text rest parent s =
+    stays_if (is_skipped text) s s (emitted parent (event_call s.moment level (message_field text ∷ rest) parent) s) (same s) (record { failed = λ w. refl; named_too = λ w. w })
 
 opened_by : (span : Option Id) (h : Held) → Stays h.state (opened_as span h).state
 opened_by (Some id) h = same h.state
@@ -232,21 +232,21 @@ line_stays level text h =
     let line = without_line_end text in
     held_if (is_frame h.one.test line) h.state (framed line h) (said level line (opened h)) (framed_stays line h) (said_stays level line h)
 
-told_line_stays : (h : Held) → Stays h.state (line_told h).state
-told_line_stays h = line_stays (level_of_line h.one.is_error) h.one.part (record h { one = record h.one { part = []; is_error = false } })
+emitted_line_stays : (h : Held) → Stays h.state (line_emitted h).state
+emitted_line_stays h = line_stays (level_of_line h.one.is_error) h.one.part (record h { one = record h.one { part = []; is_error = false } })
 
-part_stays : (h : Held) → Stays h.state (part_told h).state
-part_stays h = held_if (is_empty h.one.part) h.state h (line_told h) (same h.state) (told_line_stays h)
+part_stays : (h : Held) → Stays h.state (part_emitted h).state
+part_stays h = held_if (is_empty h.one.part) h.state h (line_emitted h) (same h.state) (emitted_line_stays h)
 
 span_stays : (ending : Ending) (rest : List Field) (span : Option Id) (h : Held) → Stays h.state (span_ended ending rest span h)
 span_stays ending rest (Some id) h =
     let event = event_stays (level_of ending) (word_of ending) rest (Some id) h.state in
     record { failed = event.failed; named_too = event.named_too }
-span_stays ending rest None h = event_stays (level_of ending) (word_of ending ++ codes " " ++ h.one.name) rest h.one.above h.state
+span_stays ending rest None h = event_stays (level_of ending) (word_of ending ++ codes " " ++ h.one.name) rest h.one.parent h.state
 
 finished_stays : (ending : Ending) (elapsed : Option (List ℕ)) (h : Held) → Stays h.state (finished ending elapsed h)
 finished_stays ending elapsed h =
-    let last = part_told h in
+    let last = part_emitted h in
     let rest = end_fields elapsed last.one in
     then_stays h.state last.state (span_ended ending rest last.one.span last) (part_stays h) (span_stays ending rest last.one.span last)
 
@@ -353,12 +353,12 @@ package_stays ending path elapsed s =
 
 test_stays : (ending : Ending) (test : List ℕ) (elapsed : Option (List ℕ)) (h : Held) → Stays h.state (test_ended ending test elapsed h)
 test_stays ending test elapsed h =
-    let above : Held = opened h in
-    let name : List ℕ = own_name above.one.test test in
-    let quiet : Held = record above { state = quiet_told ending name (elapsed_fields elapsed) above.one.span above.state } in
+    let parent : Held = opened h in
+    let name : List ℕ = own_name parent.one.test test in
+    let quiet : Held = record parent { state = quiet_emitted ending name (elapsed_fields elapsed) parent.one.span parent.state } in
     stays_if (bytes_eq h.one.test test) h.state (finished ending elapsed h) (kept quiet) (finished_stays ending elapsed h)
     (then_stays h.state quiet.state (kept quiet)
-    (then_stays h.state above.state quiet.state (opened_stays h) (event_stays (level_of ending) (word_of ending ++ codes " " ++ name) (elapsed_fields elapsed) above.one.span above.state))
+    (then_stays h.state parent.state quiet.state (opened_stays h) (event_stays (level_of ending) (word_of ending ++ codes " " ++ name) (elapsed_fields elapsed) parent.one.span parent.state))
     (kept_stays quiet))
 
 -- an end fails something exactly if it is counted as a failure
@@ -409,7 +409,7 @@ begun_stays path test h =
 ran_stays : (path test : List ℕ) (s : GoState) → Stays s (ran path test s)
 ran_stays path test s =
     let h : Held = above_held path test s in
-    let last : Held = part_told h in
+    let last : Held = part_emitted h in
     then_stays s (opened last).state (ran path test s)
     (then_stays s last.state (opened last).state (then_stays s h.state last.state (above_stays path test s) (part_stays h)) (opened_stays last))
     (begun_stays path test (started (opened last)))
@@ -417,11 +417,11 @@ ran_stays path test s =
 text_stays : (is_error : Bool) (text : List ℕ) (h : Held) → Stays h.state (text_printed is_error text h).state
 text_stays is_error text h =
     let more : Held = more_printed is_error text h in
-    held_if (ends_line text) h.state (line_told more) more (told_line_stays more) (same h.state)
+    held_if (ends_line text) h.state (line_emitted more) more (emitted_line_stays more) (same h.state)
 
 string_stays : (kind : Kind) (text : List ℕ) (h : Held) → Stays h.state (string_printed kind text h).state
 string_stays kind text h =
-    let last : Held = part_told h in
+    let last : Held = part_emitted h in
     held_if (is_framing kind h.one.test text) h.state (frame_printed text h) (text_printed (fails_as kind) text h)
     (then_stays h.state last.state (frame_printed text h).state (part_stays h) (framed_stays (without_line_end text) last)) (text_stays (fails_as kind) text h)
 
@@ -444,19 +444,19 @@ builds_said_stay level (text ∷ later) h =
     let first : Held = build_said level text h in
     then_stays h.state first.state (builds_said level later first).state (build_said_stays level text h) (builds_said_stay level later first)
 
-texts_stay : (level : Level) (build : Build) (s : GoState) → Stays s (texts_told level build s)
+texts_stay : (level : Level) (build : Build) (s : GoState) → Stays s (texts_emitted level build s)
 texts_stay level build s =
     let h : Held = held build.path [] s in
     let all : Held = builds_said level build.texts h in
     then_stays s h.state (kept all) (held_stays build.path [] s) (then_stays h.state all.state (kept all) (builds_said_stay level build.texts h) (kept_stays all))
 
-build_by : (level : Level) (build : Option Build) (s : GoState) → Stays s (told_of_build level build s)
+build_by : (level : Level) (build : Option Build) (s : GoState) → Stays s (emitted_of_build level build s)
 build_by level None s = same s
 build_by level (Some build) s = texts_stay level build s
 
-build_stays : (level : Level) (path : List ℕ) (s : GoState) → Stays s (build_told level path s)
+build_stays : (level : Level) (path : List ℕ) (s : GoState) → Stays s (build_emitted level path s)
 build_stays level path s =
-    then_stays s (without_build path s) (build_told level path s) (record { failed = λ w. refl; named_too = λ w. w }) (build_by level (named path s.builds) (without_build path s))
+    then_stays s (without_build path s) (build_emitted level path s) (record { failed = λ w. refl; named_too = λ w. w }) (build_by level (named path s.builds) (without_build path s))
 
 closed_stays : (span : Option Id) (h : Held) → Stays h.state (only_closed span h)
 closed_stays None h = same h.state
@@ -468,11 +468,11 @@ last_stays build s =
     let all : Held = builds_said Warn build.texts h in
     then_stays s all.state (build_last build s) (builds_said_stay Warn build.texts h) (closed_stays all.one.span all)
 
-builds_stay : (builds : List (List ℕ × Build)) (s : GoState) → Stays s (builds_told builds s)
+builds_stay : (builds : List (List ℕ × Build)) (s : GoState) → Stays s (builds_emitted builds s)
 builds_stay [] s = same s
 builds_stay (one ∷ others) s =
     let first : GoState = build_last one.1 s in
-    then_stays s first (builds_told others first) (last_stays one.1 s) (builds_stay others first)
+    then_stays s first (builds_emitted others first) (last_stays one.1 s) (builds_stay others first)
 
 -- ---- lines
 
@@ -480,8 +480,8 @@ plain_stays : (line : List ℕ) (s : GoState) → Stays s (takes_plain line s)
 plain_stays line s =
     let h : Held = held s.building [] s in
     let event : Held = said Error line (opened h) in
-    stays_if (is_package_frame line) s s (if is_aside line s then event_told (level_of_text line) line [] s.last s else kept event) (same s)
-    (stays_if (is_aside line s) s (event_told (level_of_text line) line [] s.last s) (kept event) (event_stays (level_of_text line) line [] s.last s)
+    stays_if (is_package_frame line) s s (if is_aside line s then event_emitted (level_of_text line) line [] s.last s else kept event) (same s)
+    (stays_if (is_aside line s) s (event_emitted (level_of_text line) line [] s.last s) (kept event) (event_stays (level_of_text line) line [] s.last s)
     (then_stays s h.state (kept event) (held_stays s.building [] s)
     (then_stays h.state event.state (kept event) (said_stays Error line h) (kept_stays event))))
 
@@ -545,7 +545,7 @@ neither_fail action one two is a b = by (bytes_eq action one) refl where
 printed_if_goes : (f : Bool) (kind : Kind) (path test : List ℕ) (text : Option (List ℕ)) (s : GoState) → f ≡ false → GoesIf f s (printed_if kind path test text s)
 printed_if_goes f kind path test None s e = e
 printed_if_goes f kind path test (Some text) s e =
-    let built : GoState = build_told Warn path s in
+    let built : GoState = build_emitted Warn path s in
     as_false f s (printed kind path test text built) e (then_stays s built (printed kind path test text built) (build_stays Warn path s) (printed_stays kind path test text built))
 
 build_printed_goes : (f : Bool) (path : List ℕ) (text : Option (List ℕ)) (s : GoState) → f ≡ false → GoesIf f s (build_printed_if path text s)
@@ -579,10 +579,10 @@ moved_goes action path test elapsed s =
 acted_goes : (action path test : List ℕ) (value : Json) (s : GoState) → GoesIf (bytes_eq action (codes "fail")) s (acted action path test value s)
 acted_goes action path test value s =
     let f : Bool = bytes_eq action (codes "fail") in
-    let built : GoState = build_told Warn path s in
+    let built : GoState = build_emitted Warn path s in
     goes_by (bytes_eq action (codes "build-output")) f s _ _ (λ is. build_printed_goes f path (text_at (codes "Output") value) s (not_fail action (codes "build-output") is refl))
     (λ _. goes_by (bytes_eq action (codes "output")) f s _ _ (λ is. printed_if_goes f (kind_in value) path test (text_at (codes "Output") value) s (not_fail action (codes "output") is refl))
-    (λ _. goes_by (bytes_eq action (codes "build-fail")) f s _ _ (λ is. as_false f s (build_told Error path s) (not_fail action (codes "build-fail") is refl) (build_stays Error path s))
+    (λ _. goes_by (bytes_eq action (codes "build-fail")) f s _ _ (λ is. as_false f s (build_emitted Error path s) (not_fail action (codes "build-fail") is refl) (build_stays Error path s))
     (λ _. stays_goes f s built (moved action path test (elapsed_in value) built) (build_stays Warn path s) (moved_goes action path test (elapsed_in value) built))))
 
 json_goes : (action path : Option (List ℕ)) (value : Json) (s : GoState) → GoesIf (is_fail action path) s (acted_for action path value s)
@@ -590,13 +590,13 @@ json_goes (Some action) (Some path) value s = acted_goes action path (test_of va
 json_goes (Some action) None value s = refl
 json_goes None path value s = refl
 
-handed_goes : (b : Bool) (s at : GoState) (o : Option GoState) → Stays s at → GoesIf b at o → Goes b s (heard_step s (option_map handed_out o)).source
+handed_goes : (b : Bool) (s at : GoState) (o : Option GoState) → Stays s at → GoesIf b at o → Goes b s (interpreted_step s (option_map handed_out o)).source
 handed_goes b s at None h e = as_false b s s e (same s)
 handed_goes b s at (Some t) h k =
     let all = stays_goes b s at t h k in
     record { failed = all.failed; named_too = all.named_too }
 
-step_goes : (line : List ℕ) (value : Option Json) (s : GoState) → Goes (is_failure line value) s (heard_step s (go_takes s line value)).source
+step_goes : (line : List ℕ) (value : Option Json) (s : GoState) → Goes (is_failure line value) s (interpreted_step s (go_takes s line value)).source
 step_goes line None s =
     let all = text_goes line s in
     record { failed = all.failed; named_too = all.named_too }
@@ -604,19 +604,19 @@ step_goes line (Some value) s =
     handed_goes (is_fail (text_at (codes "Action") value) (package_of value)) s (timed value s) (takes_json value (timed value s))
     (record { failed = λ w. refl; named_too = λ w. w }) (json_goes (text_at (codes "Action") value) (package_of value) value (timed value s))
 
-heard_if : (b f g : Bool) (s : GoState) (h k : Heard GoState) → Goes f s h.source → Goes g s k.source → Goes (if b then f else g) s (if b then h else k).source
-heard_if true f g s h k i j = i
-heard_if false f g s h k i j = j
+interpreted_if : (b f g : Bool) (s : GoState) (h k : Interpreted GoState) → Goes f s h.source → Goes g s k.source → Goes (if b then f else g) s (if b then h else k).source
+interpreted_if true f g s h k i j = i
+interpreted_if false f g s h k i j = j
 
-line_goes : (line : List ℕ) (s : GoState) → Goes (tells_failure line) s (hear_line go_takes s line).source
+line_goes : (line : List ℕ) (s : GoState) → Goes (emits_failure line) s (interpret_line go_takes s line).source
 line_goes line s =
-    heard_if (is_utf8 line) (is_failure line (document line)) false s (heard_step s (go_takes s line (document line))) (heard_step s None) (step_goes line (document line) s) (goes_of s s (same s))
+    interpreted_if (is_utf8 line) (is_failure line (document line)) false s (interpreted_step s (go_takes s line (document line))) (interpreted_step s None) (step_goes line (document line) s) (goes_of s s (same s))
 
-lines_go : (lines : List (List ℕ)) (s : GoState) → Goes (list_any tells_failure lines) s (hear go_takes s lines).source
+lines_go : (lines : List (List ℕ)) (s : GoState) → Goes (list_any emits_failure lines) s (interpret go_takes s lines).source
 lines_go [] s = goes_of s s (same s)
 lines_go (line ∷ lines) s =
-    let after : GoState = (hear_line go_takes s line).source in
-    goes_then (tells_failure line) (list_any tells_failure lines) s after (hear go_takes after lines).source (line_goes line s) (lines_go lines after)
+    let after : GoState = (interpret_line go_takes s line).source in
+    goes_then (emits_failure line) (list_any emits_failure lines) s after (interpret go_takes after lines).source (line_goes line s) (lines_go lines after)
 
 -- ---- the end
 
@@ -653,11 +653,11 @@ packages_go ((path, tests) ∷ others) s h =
 
 -- tests have failed exactly if a line reports a failure, or a package still ran
 pub some_failed_after : (next : ℕ) (moment : Moment) (lines : List (List ℕ)) →
-    has_failed (all_ended (hear go_takes (nothing_run next moment) lines).source) ≡ some_failed lines (hear go_takes (nothing_run next moment) lines).source
+    has_failed (all_ended (interpret go_takes (nothing_run next moment) lines).source) ≡ some_failed lines (interpret go_takes (nothing_run next moment) lines).source
 some_failed_after next moment lines =
-    let heard = lines_go lines (nothing_run next moment) in
-    let s : GoState = (hear go_takes (nothing_run next moment) lines).source in
+    let interpreted = lines_go lines (nothing_run next moment) in
+    let s : GoState = (interpret go_takes (nothing_run next moment) lines).source in
     let at : GoState = record s { builds = []; packages = [] } in
     let left : GoState = packages_left s.packages at in
-    let all = goes_stays (list_any package_runs s.packages) at left (builds_told s.builds left) (packages_go s.packages at (heard.named_too tt)) (builds_stay s.builds left) in
-    all.failed tt ∙ ap (λ b. b || list_any package_runs s.packages) (heard.failed tt)
+    let all = goes_stays (list_any package_runs s.packages) at left (builds_emitted s.builds left) (packages_go s.packages at (interpreted.named_too tt)) (builds_stay s.builds left) in
+    all.failed tt ∙ ap (λ b. b || list_any package_runs s.packages) (interpreted.failed tt)

@@ -3,19 +3,19 @@ use Rattle.std.proofs.Common.{◌≡◌, ℕ, Bool, true, false, List, [], ◌�
 use Rattle.json.specs.Json.{Json}
 use Rattle.tracing_tree_base.specs.declared.context.Id.{Id}
 use Rattle.tracing_tree_layer.specs.declared.call.Call.{Call}
-use Rattle.ttree_source.specs.Source.{Tells}
+use Rattle.ttree_source.specs.Source.{Emits}
 use Rattle.ttree_go_test.specs.declared.go_test.running.Running.{Running}
 use Rattle.ttree_go_test.specs.declared.go_test.tally.Ending.{Ending}
 use Rattle.ttree_go_test.specs.GoTest.{GoState, Tests, handed_out, left_one, left_over, placed, takes_json, takes_timed, takes_value, takes_value_as, timed}
 
-pub tells_unknown : (state : Option GoState) (old new : GoState) → takes_value_as state old new false → Tells (option_map handed_out state) old new None
-tells_unknown None old new h = h.0
-tells_unknown (Some state) old new h = cc
+pub emits_unknown : (state : Option GoState) (old new : GoState) → takes_value_as state old new false → Emits (option_map handed_out state) old new None
+emits_unknown None old new h = h.0
+emits_unknown (Some state) old new h = cc
 
-pub tells_known : (state : Option GoState) (old new after : GoState) (calls : List Call) → takes_value_as state old new true →
-    calls ≡ new.calls → after ≡ record new { calls = [] } → Tells (option_map handed_out state) old after (Some calls)
-tells_known None old new after calls h told rest = cc
-tells_known (Some state) old new after calls h told rest = (told ∙ ap (λ (s : GoState). s.calls) h.0, rest ∙ ap (λ (s : GoState). record s { calls = [] }) h.0)
+pub emits_known : (state : Option GoState) (old new after : GoState) (calls : List Call) → takes_value_as state old new true →
+    calls ≡ new.calls → after ≡ record new { calls = [] } → Emits (option_map handed_out state) old after (Some calls)
+emits_known None old new after calls h emitted rest = cc
+emits_known (Some state) old new after calls h emitted rest = (emitted ∙ ap (λ (s : GoState). s.calls) h.0, rest ∙ ap (λ (s : GoState). record s { calls = [] }) h.0)
 
 kept_on : (state : Option GoState) (value : Json) (old left : GoState) (known : Bool) → takes_value_as state (timed value old) left known → known ≡ true →
     takes_value_as state old left known

@@ -111,9 +111,9 @@ away name other h = by (is_eq (slice_cmp nat_cmp name other)) refl where
       let same : name ≡ other = (bytes_eq-Decides name other).0 (sym (is_eq-slice_cmp name other) ∙ is) in
       absurd (true≢false (sym ((bytes_eq-Decides other name).1 (sym same)) ∙ h))
 
-lacking : (here : Bool) → not here ≡ true → here ≡ false
-lacking true h = sym h
-lacking false h = refl
+missing : (here : Bool) → not here ≡ true → here ≡ false
+missing true h = sym h
+missing false h = refl
 
 module _ {X : Type 0} where
   put_again : (name : List ℕ) (one old : X) (list : List (List ℕ × X)) → put name one list ≡ put name one (put name old list)
@@ -155,7 +155,7 @@ module _ {X : Type 0} where
   recent_taken name None list here apart = absurd (true≢false (sym here))
   recent_taken name (Some recent) list here apart =
       subst (λ n. list ≡ without n (with_value recent.name.items recent.one list)) ((bytes_eq-Decides recent.name.items name).0 here)
-      (by recent.one (lacking (is_some (named recent.name.items list)) apart)) where
+      (by recent.one (missing (is_some (named recent.name.items list)) apart)) where
         by : (one : Option X) → is_some (named recent.name.items list) ≡ false → list ≡ without recent.name.items (with_value recent.name.items one list)
         by None h = sym (none_taken_out recent.name.items list h)
         by (Some one) h = sym (taken_out recent.name.items one list h)

@@ -6,13 +6,13 @@ use Rattle.tracing_tree_base.specs.declared.field.Field.{Field}
 use Rattle.tracing_tree_base.specs.declared.style.Level.{Level}
 use Rattle.tracing_tree_lines.specs.Lines.Spelled.{is_skipped}
 use Rattle.ttree_source.specs.Marks.{is_empty}
-use Rattle.ttree_source.specs.Told.{event_call, message_field}
+use Rattle.ttree_source.specs.Calls.{event_call, message_field}
 use Rattle.ttree_go_test.specs.Names.{without}
 use Rattle.ttree_go_test.specs.Texts.{is_frame, without_line_end}
 use Rattle.ttree_go_test.specs.declared.go_test.running.Running.{Running}
 use Rattle.ttree_go_test.specs.declared.go_test.tally.Ending.{Ending}
 use Rattle.ttree_go_test.specs.declared.go_test.tally.Ending.TheVariants.{Passed}
-use Rattle.ttree_go_test.specs.GoTest.{GoState, Held, Tests, all_left_over, counted, end_fields, ended, event_told, finished, framed, holds, left_one, left_over, level_of, level_of_line, line_of, line_told, noted, noted_left, opened, opened_as, package_counted, package_ended, part_told, placed, running_as, said, span_ended, tests_of, told, without_package, word_of, build_over}
+use Rattle.ttree_go_test.specs.GoTest.{GoState, Held, Tests, all_left_over, counted, end_fields, ended, event_emitted, finished, framed, holds, left_one, left_over, level_of, level_of_line, line_of, line_emitted, noted, noted_left, opened, opened_as, package_counted, package_ended, part_emitted, placed, running_as, said, span_ended, tests_of, emitted, without_package, word_of, build_over}
 
 -- the tests that are counted as unfinished
 count : GoState → ℕ
@@ -26,10 +26,10 @@ held_same : (b : Bool) (h k : Held) (n : ℕ) → count h.state ≡ n → count 
 held_same true h k n i j = i
 held_same false h k n i j = j
 
-event_same : (level : Level) (text : List ℕ) (rest : List Field) (above : Option Id) (s : GoState) → count (event_told level text rest above s) ≡ count s
+event_same : (level : Level) (text : List ℕ) (rest : List Field) (parent : Option Id) (s : GoState) → count (event_emitted level text rest parent s) ≡ count s
 unfolding count
-event_same level text rest above s =
-    if_same (is_skipped text) s (told above (event_call s.moment level (message_field text ∷ rest) above) s) (count s) refl refl
+event_same level text rest parent s =
+    if_same (is_skipped text) s (emitted parent (event_call s.moment level (message_field text ∷ rest) parent) s) (count s) refl refl
 
 opened_by : (span : Option Id) (h : Held) → count (opened_as span h).state ≡ count h.state
 unfolding count
@@ -45,19 +45,19 @@ line_same level text h =
     held_same (is_frame h.one.test line) (framed line h) (said level line (opened h)) (count h.state)
     (held_same (is_empty h.one.test) (record h { one = noted line h.one }) h (count h.state) refl refl) (said_same level line h)
 
-part_same : (h : Held) → count (part_told h).state ≡ count h.state
+part_same : (h : Held) → count (part_emitted h).state ≡ count h.state
 part_same h =
-    held_same (is_empty h.one.part) h (line_told h) (count h.state) refl
+    held_same (is_empty h.one.part) h (line_emitted h) (count h.state) refl
     (line_same (level_of_line h.one.is_error) h.one.part (record h { one = record h.one { part = []; is_error = false } }))
 
 span_same : (ending : Ending) (rest : List Field) (span : Option Id) (h : Held) → count (span_ended ending rest span h) ≡ count h.state
 unfolding count
 span_same ending rest (Some id) h = event_same (level_of ending) (word_of ending) rest (Some id) h.state
-span_same ending rest None h = event_same (level_of ending) (word_of ending ++ codes " " ++ h.one.name) rest h.one.above h.state
+span_same ending rest None h = event_same (level_of ending) (word_of ending ++ codes " " ++ h.one.name) rest h.one.parent h.state
 
 finished_same : (ending : Ending) (elapsed : Option (List ℕ)) (h : Held) → count (finished ending elapsed h) ≡ count h.state
 finished_same ending elapsed h =
-    let last = part_told h in
+    let last = part_emitted h in
     span_same ending (end_fields elapsed last.one) last.one.span last ∙ part_same h
 
 noted_by : (b : Bool) (one : Running) (s : GoState) → count (if b then package_counted Passed one.path s else counted Passed one.path one.test s) ≡ count s

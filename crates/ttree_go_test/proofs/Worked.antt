@@ -1,19 +1,19 @@
 -- Examples computed from the definitions of Go's tests, and of what failed of them.
 use Rattle.std.proofs.Common.{◌≡◌, ℕ, List, true, false, None, Some, [], ◌∷◌, codes, refl}
 use Rattle.json.specs.Json.{string, object, member, no_members}
-use Rattle.ttree_go_test.specs.Failed.{FailedState, Untold, forgotten, is_inner, is_over, none_failed, outermost, released, verdict_of}
-use Rattle.ttree_go_test.specs.GoTest.{GoState, Tests, above_held, all_ended, begun, build_printed, build_told, built_after, ended, failed_counted, go_lacks, held, kept, kind_named, left_as, left_over, level_of_build, level_of_text, more_names, no_counts, nothing_run, owner, package_counted, package_ended, package_started, placed, printed, ran, takes_text, without_heading}
+use Rattle.ttree_go_test.specs.Failed.{FailedState, Pending, forgotten, is_inner, is_over, none_failed, outermost, released, verdict_of}
+use Rattle.ttree_go_test.specs.GoTest.{GoState, Tests, above_held, all_ended, begun, build_printed, build_emitted, built_after, ended, failed_counted, go_problem, held, kept, kind_named, left_as, left_over, level_of_build, level_of_text, more_names, no_counts, nothing_run, owner, package_counted, package_ended, package_started, placed, printed, ran, takes_text, without_heading}
 use Rattle.ttree_go_test.specs.Texts.{coverage_in, is_cached, is_frame, is_frame_line, own_name, up_to_space}
 use Rattle.ttree_go_test.specs.declared.go_test.running.Kind.TheVariants.{Plain, Frame, Failure}
 use Rattle.ttree_go_test.specs.declared.go_test.tally.Ending.TheVariants.{Passed, Failed, Unfinished}
-use Rattle.ttree_go_test.specs.declared.failed.Kept.{Kept}
+use Rattle.ttree_go_test.specs.declared.failed.HeldLine.{HeldLine}
 use Rattle.ttree_go_test.specs.declared.failed.Verdict.{Verdict}
 use Rattle.ttree_go_test.specs.declared.failed.Verdict.TheVariants.{Open, Good, Bad}
-use Rattle.ttree_source.specs.declared.notes.Lack.TheVariants.{Package}
+use Rattle.ttree_source.specs.declared.notes.Problem.TheVariants.{Package}
 use Rattle.tracing_tree_base.specs.declared.context.Moment.{Moment}
 use Rattle.tracing_tree_base.specs.declared.style.Level.TheVariants.{Info, Warn, Error}
 use Rattle.tracing_tree_spans.specs.Registry.Ids.{id_of}
-use Rattle.ttree_source.specs.Told.{close_call, event_call, message_field, span_call}
+use Rattle.ttree_source.specs.Calls.{close_call, event_call, message_field, span_call}
 
 pub frame_of_its_own : is_frame (codes "TestSum") (codes "    --- PASS: TestSum (0.00s)") ≡ true
 unfolding is_frame
@@ -81,7 +81,7 @@ a_heading_in_brackets_names_no_other_package = (refl, refl)
 pub package_of_a_heading : up_to_space (codes "q [q.test]") ≡ codes "q"
 package_of_a_heading = refl
 
-pub an_action_without_a_package : go_lacks (Some (object (member (codes "Action") (string (codes "run")) no_members))) ≡ Package
+pub an_action_without_a_package : go_problem (Some (object (member (codes "Action") (string (codes "run")) no_members))) ≡ Package
 an_action_without_a_package = refl
 
 module _ (moment : Moment) where
@@ -105,10 +105,10 @@ module _ (moment : Moment) where
   abbrev one_with_a_span : Tests
   one_with_a_span = (codes "TestA", record (begun (codes "p") (codes "TestA")) { span = Some (id_of 7) }) ∷ []
 
-  pub a_test_stands_in_the_longest_beginning_with_a_span : (placed (Some (id_of 3)) one_with_a_span (begun (codes "p") (codes "TestA/b/c"))).above ≡ Some (id_of 7)
+  pub a_test_stands_in_the_longest_beginning_with_a_span : (placed (Some (id_of 3)) one_with_a_span (begun (codes "p") (codes "TestA/b/c"))).parent ≡ Some (id_of 7)
   a_test_stands_in_the_longest_beginning_with_a_span = refl
 
-  pub once_that_ended_it_stands_in_the_package : (placed (Some (id_of 3)) [] (begun (codes "p") (codes "TestA/b/c"))).above ≡ Some (id_of 3)
+  pub once_that_ended_it_stands_in_the_package : (placed (Some (id_of 3)) [] (begun (codes "p") (codes "TestA/b/c"))).parent ≡ Some (id_of 3)
   once_that_ended_it_stands_in_the_package = refl
 
   pub a_benchmark_without_an_end_has_passed : (left_over (left_as Passed) None [] two_that_run (nothing_run 1 moment)).tally
@@ -149,16 +149,16 @@ module _ (moment : Moment) where
   abbrev built : GoState
   built = build_printed (codes "p") (codes "x\n") (nothing_run 1 moment)
 
-  pub a_build_is_told_when_it_is_known_whether_it_fails : (built.calls ≡ [])
-      × ((build_told Error (codes "p") built).calls
+  pub a_build_is_emitted_when_it_is_known_whether_it_fails : (built.calls ≡ [])
+      × ((build_emitted Error (codes "p") built).calls
       ≡ span_call moment (codes "p") [] None ∷ event_call moment Error (message_field (codes "x") ∷ []) (Some (id_of 1)) ∷ [])
   unfolding held kept
-  a_build_is_told_when_it_is_known_whether_it_fails = (refl, refl)
+  a_build_is_emitted_when_it_is_known_whether_it_fails = (refl, refl)
 
-  pub a_line_that_isnt_json_is_told_in_the_last_span : (takes_text (codes "note") (ran (codes "p") [] (nothing_run 1 moment))).calls
+  pub a_line_that_isnt_json_is_emitted_in_the_last_span : (takes_text (codes "note") (ran (codes "p") [] (nothing_run 1 moment))).calls
       ≡ span_call moment (codes "p") [] None ∷ event_call moment Info (message_field (codes "note") ∷ []) (Some (id_of 1)) ∷ []
   unfolding above_held held kept
-  a_line_that_isnt_json_is_told_in_the_last_span = refl
+  a_line_that_isnt_json_is_emitted_in_the_last_span = refl
 
   -- a build that fails, and what is printed after its package's end
   abbrev failed_build : GoState
@@ -219,16 +219,16 @@ pub outermost_of_a_test : (outermost (codes "TestSum/a/b") ≡ codes "TestSum") 
 outermost_of_a_test = (refl, refl)
 
 module _ (line : List ℕ) (moment : Moment) where
-  abbrev kept_of : List ℕ → Verdict → Kept
+  abbrev kept_of : List ℕ → Verdict → HeldLine
   kept_of test verdict = record { test = test; verdict = verdict; line = line }
 
-  pub what_passed_in_a_failed_test_isnt_told : released (codes "p") (kept_of (codes "TestA/x") Open ∷ kept_of (codes "TestA/x") Good ∷ []) (nothing_run 1 moment) ≡ nothing_run 1 moment
-  what_passed_in_a_failed_test_isnt_told = refl
+  pub what_passed_in_a_failed_test_isnt_emitted : released (codes "p") (kept_of (codes "TestA/x") Open ∷ kept_of (codes "TestA/x") Good ∷ []) (nothing_run 1 moment) ≡ nothing_run 1 moment
+  what_passed_in_a_failed_test_isnt_emitted = refl
 
   pub what_passed_and_failed_isnt_over : is_over (kept_of (codes "TestA/x") Good ∷ kept_of (codes "TestA/x") Bad ∷ []) (codes "TestA/x") ≡ false
   what_passed_and_failed_isnt_over = refl
 
-  abbrev lines_of_two : Untold
+  abbrev lines_of_two : Pending
   lines_of_two = (codes "TestA", kept_of (codes "TestA/x") Good ∷ []) ∷ (codes "TestAll", kept_of (codes "TestAll") Open ∷ []) ∷ []
 
   abbrev two_kept : FailedState

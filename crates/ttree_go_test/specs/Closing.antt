@@ -7,7 +7,7 @@ use Rattle.ttree_source.specs.Marks.{is_empty}
 use Rattle.ttree_go_test.specs.GoTest.{Tests, span_in}
 use Rattle.ttree_go_test.specs.Nesting.{IsIn}
 
--- the actions with which a test or a package ends
+-- the actions that end a test or a package
 abbrev pub is_end : List ℕ → Bool
 is_end action =
     (bytes_eq action (codes "pass") || bytes_eq action (codes "bench"))

@@ -8,19 +8,19 @@ use Rattle.ttree_source.specs.Source.{Step}
 use Rattle.ttree_go_test.specs.GoTest.{GoState, all_ended, go_ended, go_takes, nothing_run, package_of, runs, takes_json, takes_text, tally_call, test_of, timed}
 use Rattle.ttree_go_test.specs.Names.{named, put, without}
 use Rattle.ttree_source.specs.Values.{text_at}
-use Rattle.ttree_go_test.specs.declared.failed.Kept.{Kept}
+use Rattle.ttree_go_test.specs.declared.failed.HeldLine.{HeldLine}
 use Rattle.ttree_go_test.specs.declared.failed.Verdict.{Verdict}
 use Rattle.ttree_go_test.specs.declared.failed.Verdict.TheVariants.{Open, Good, Bad}
 
 -- what is kept of a package by its outermost tests; the package's own lines have the empty name
-abbrev pub Untold : Type 0
-Untold = List (List ℕ × List Kept)
+abbrev pub Pending : Type 0
+Pending = List (List ℕ × List HeldLine)
 
 -- what is known of all lines and of those that were shown, and what is kept by the packages' paths
 pub record FailedState : Type 0 where
   pub whole : GoState
   pub shown : GoState
-  pub packages : List (List ℕ × Untold)
+  pub packages : List (List ℕ × Pending)
 
 -- no test runs yet
 abbrev pub none_failed : ℕ → Moment → FailedState
@@ -62,20 +62,20 @@ is_bad Bad = true
 abbrev pub is_inner : List ℕ → Bool
 is_inner test = list_any (λ b. b == 47) test
 
--- the name of the outermost test in which a test is nested
+-- the outermost test around a test, by name
 abbrev pub outermost : List ℕ → List ℕ
 outermost test = take (position_or_len (λ b. b == 47) test) test
 
 -- a line says that the test came to such an end
-abbrev pub says : (Verdict → Bool) → Kept → List ℕ → Bool
+abbrev pub says : (Verdict → Bool) → HeldLine → List ℕ → Bool
 says is one test = is one.verdict && bytes_eq one.test test
 
 -- one of these lines says so
-abbrev pub someone_says : (Verdict → Bool) → List Kept → List ℕ → Bool
+abbrev pub someone_says : (Verdict → Bool) → List HeldLine → List ℕ → Bool
 someone_says is kept test = list_any (λ one. says is one test) kept
 
 -- the test passed or was skipped, as these lines say, and no line says that it failed
-abbrev pub is_over : List Kept → List ℕ → Bool
+abbrev pub is_over : List HeldLine → List ℕ → Bool
 is_over kept test = someone_says is_good kept test && not (someone_says is_bad kept test)
 
 -- ---- what is shown
@@ -85,72 +85,72 @@ abbrev pub line_shown : List ℕ → Option Json → GoState → GoState
 line_shown line None shown = takes_text line shown
 line_shown line (Some value) shown = unwrap_or (takes_json value (timed value shown)) shown
 
-abbrev pub kept_shown : Kept → GoState → GoState
+abbrev pub kept_shown : HeldLine → GoState → GoState
 kept_shown one shown = line_shown one.line (document one.line) shown
 
 -- shows a line of a package, unless its test is over and wasn't shown in part
-abbrev pub released_one : List ℕ → (List ℕ → Bool) → Kept → GoState → GoState
+abbrev pub released_one : List ℕ → (List ℕ → Bool) → HeldLine → GoState → GoState
 released_one path over one shown =
     if over one.test && not (runs path one.test shown) then shown else kept_shown one shown
 
-abbrev pub released_each : List ℕ → (List ℕ → Bool) → List Kept → GoState → GoState
+abbrev pub released_each : List ℕ → (List ℕ → Bool) → List HeldLine → GoState → GoState
 released_each path over [] shown = shown
 released_each path over (one ∷ others) shown =
     released_each path over others (released_one path over one shown)
 
 -- shows lines of a package, without those of tests that passed or were skipped
-abbrev pub released : List ℕ → List Kept → GoState → GoState
+abbrev pub released : List ℕ → List HeldLine → GoState → GoState
 released path kept shown = released_each path (is_over kept) kept shown
 
 -- what is kept of one outermost test after the other
-abbrev pub tests_released : List ℕ → Untold → GoState → GoState
+abbrev pub tests_released : List ℕ → Pending → GoState → GoState
 tests_released path [] shown = shown
 tests_released path (one ∷ others) shown = tests_released path others (released path one.1 shown)
 
 -- the lines of an outermost test, or with an empty name the package's own
-abbrev pub kept_in : List ℕ → Untold → List Kept
-kept_in test untold = unwrap_or (named test untold) []
+abbrev pub kept_in : List ℕ → Pending → List HeldLine
+kept_in test pending = unwrap_or (named test pending) []
 
 -- what is kept of a package: of its tests, and then its own lines
-abbrev pub package_released : List ℕ → Untold → GoState → GoState
-package_released path untold shown =
-    released path (kept_in [] untold) (tests_released path (without [] untold) shown)
+abbrev pub package_released : List ℕ → Pending → GoState → GoState
+package_released path pending shown =
+    released path (kept_in [] pending) (tests_released path (without [] pending) shown)
 
 -- ---- what is kept
 
 -- adds a line to those of an outermost test, or with an empty name to the package's own
-abbrev pub with_line : List ℕ → Kept → Untold → Untold
-with_line test one untold = put test (kept_in test untold ++ one ∷ []) (without test untold)
+abbrev pub with_line : List ℕ → HeldLine → Pending → Pending
+with_line test one pending = put test (kept_in test pending ++ one ∷ []) (without test pending)
 
 -- what is kept of a package
-abbrev pub untold_of : List ℕ → FailedState → Untold
-untold_of path s = unwrap_or (named path s.packages) []
+abbrev pub pending_of : List ℕ → FailedState → Pending
+pending_of path s = unwrap_or (named path s.packages) []
 
-abbrev pub without_untold : List ℕ → FailedState → FailedState
-without_untold path s = record s { packages = without path s.packages }
+abbrev pub without_pending : List ℕ → FailedState → FailedState
+without_pending path s = record s { packages = without path s.packages }
 
-abbrev pub with_untold : List ℕ → Untold → FailedState → FailedState
-with_untold path untold s = record s { packages = put path untold s.packages }
+abbrev pub with_pending : List ℕ → Pending → FailedState → FailedState
+with_pending path pending s = record s { packages = put path pending s.packages }
 
 abbrev pub line_kept : List ℕ → List ℕ → Verdict → List ℕ → FailedState → FailedState
 line_kept path test verdict line s =
-    with_untold path
+    with_pending path
     (with_line (outermost test) (record { test = test; verdict = verdict; line = line })
-    (untold_of path s)) (without_untold path s)
+    (pending_of path s)) (without_pending path s)
 
 -- nothing is kept of an outermost test any more, or of a package if the name is empty
 abbrev pub forgotten : List ℕ → List ℕ → FailedState → FailedState
 forgotten path test s =
-    if length test == 0 then without_untold path s
-    else with_untold path (without test (untold_of path s)) (without_untold path s)
+    if length test == 0 then without_pending path s
+    else with_pending path (without test (pending_of path s)) (without_pending path s)
 
 -- shows what is kept of an outermost test, or of a package if the name is empty
-abbrev pub told_of : List ℕ → List ℕ → FailedState → FailedState
-told_of path test s =
+abbrev pub emitted_of : List ℕ → List ℕ → FailedState → FailedState
+emitted_of path test s =
     record (forgotten path test s) {
       shown =
-          if length test == 0 then package_released path (untold_of path s) s.shown
-          else released path (kept_in test (untold_of path s)) s.shown;
+          if length test == 0 then package_released path (pending_of path s) s.shown
+          else released path (kept_in test (pending_of path s)) s.shown;
     }
 
 -- ---- lines
@@ -168,7 +168,7 @@ abbrev pub value_taken_of : List ℕ → List ℕ → Verdict → List ℕ → J
 value_taken_of path test verdict line value s =
     if is_open verdict || is_inner test then line_kept path test verdict line s
     else if is_good verdict && not (runs path test s.shown) then forgotten path test s
-    else value_shown line value (told_of path test s)
+    else value_shown line value (emitted_of path test s)
 
 abbrev pub value_taken : List ℕ → Json → FailedState → FailedState
 value_taken line value s =
@@ -199,7 +199,7 @@ abbrev pub failed_takes : FailedState → List ℕ → Option Json → Option (S
 failed_takes s line value = option_map (failed_step line value s) (go_takes s.whole line value)
 
 -- what is kept of packages that didn't end
-abbrev pub all_released : List (List ℕ × Untold) → GoState → GoState
+abbrev pub all_released : List (List ℕ × Pending) → GoState → GoState
 all_released [] shown = shown
 all_released (one ∷ others) shown = all_released others (package_released one.0 one.1 shown)
 

@@ -23,8 +23,8 @@ is_failure line None = if is_skipped line then false else begins (codes "FAIL\t"
 is_failure line (Some value) = is_fail (text_at (codes "Action") value) (package_of value)
 
 -- a line reports that a test or a package failed
-abbrev pub tells_failure : List ℕ → Bool
-tells_failure line =
+abbrev pub emits_failure : List ℕ → Bool
+emits_failure line =
     if is_utf8 line then is_failure line (document line) else false
 
 abbrev pub has_begun : Option Running → Bool
@@ -37,4 +37,4 @@ package_runs (path, tests) = has_begun (named [] tests)
 
 -- a line reports a failure, or a package still runs after all lines
 abbrev pub some_failed : List (List ℕ) → GoState → Bool
-some_failed lines s = list_any tells_failure lines || list_any package_runs s.packages
+some_failed lines s = list_any emits_failure lines || list_any package_runs s.packages

@@ -20,10 +20,10 @@ use Rattle.ttree_source.specs.Counts.{one_more}
 use Rattle.ttree_source.specs.Marks.{after_mark, begins, is_empty}
 use Rattle.ttree_source.specs.Traces.{begins_trace}
 use Rattle.ttree_source.specs.Values.{text_at}
-use Rattle.ttree_source.specs.declared.notes.Lack.{Lack}
-use Rattle.ttree_source.specs.declared.notes.Lack.TheVariants.{Object, Action, Package, Output}
+use Rattle.ttree_source.specs.declared.notes.Problem.{Problem}
+use Rattle.ttree_source.specs.declared.notes.Problem.TheVariants.{Object, Action, Package, Output}
 use Rattle.ttree_source.specs.Moments.{moment_after}
-use Rattle.ttree_source.specs.Told.{close_call, event_call, message_field, shown, span_call}
+use Rattle.ttree_source.specs.Calls.{close_call, event_call, message_field, shown, span_call}
 use Rattle.ttree_go_test.specs.declared.go_test.builds.Build.{Build}
 use Rattle.ttree_go_test.specs.declared.go_test.running.Kind.{Kind}
 use Rattle.ttree_go_test.specs.declared.go_test.running.Kind.TheVariants.{Plain, Frame, Failure}
@@ -148,14 +148,14 @@ package_counted Unfinished path s = package_failed path (one_ended s)
 -- ---- calls
 
 -- adds a call, after which this is the last span
-abbrev pub told : Option Id → Call → GoState → GoState
-told last call s = record s { calls = s.calls ++ call ∷ []; last = last }
+abbrev pub emitted : Option Id → Call → GoState → GoState
+emitted last call s = record s { calls = s.calls ++ call ∷ []; last = last }
 
 -- an event with these further fields in this span, unless its message is blank
-abbrev pub event_told : Level → List ℕ → List Field → Option Id → GoState → GoState
-event_told level text rest above s =
+abbrev pub event_emitted : Level → List ℕ → List Field → Option Id → GoState → GoState
+event_emitted level text rest parent s =
     if is_skipped text then s
-    else told above (event_call s.moment level (message_field text ∷ rest) above) s
+    else emitted parent (event_call s.moment level (message_field text ∷ rest) parent) s
 
 abbrev pub elapsed_fields : Option (List ℕ) → List Field
 elapsed_fields None = []
@@ -176,9 +176,9 @@ end_fields elapsed one =
     elapsed_fields elapsed ++ cached_fields one.is_cached ++ coverage_fields one.coverage
 
 -- the end of a test without a span, as an event
-abbrev pub quiet_told : Ending → List ℕ → List Field → Option Id → GoState → GoState
-quiet_told ending name rest above s =
-    event_told (level_of ending) (word_of ending ++ codes " " ++ name) rest above s
+abbrev pub quiet_emitted : Ending → List ℕ → List Field → Option Id → GoState → GoState
+quiet_emitted ending name rest parent s =
+    event_emitted (level_of ending) (word_of ending ++ codes " " ++ name) rest parent s
 
 -- the whole name of a test, or the path of a package
 abbrev pub whole_name : Running → List ℕ
@@ -221,8 +221,8 @@ abbrev pub opened_as : Option Id → Held → Held
 opened_as (Some id) h = h
 opened_as None h = record {
   one = record h.one { span = Some (id_of h.state.next) };
-  state = record (told (Some (id_of h.state.next))
-      (span_call h.state.moment h.one.name [] h.one.above) h.state)
+  state = record (emitted (Some (id_of h.state.next))
+      (span_call h.state.moment h.one.name [] h.one.parent) h.state)
       { next = one_more h.state.next };
 }
 
@@ -231,7 +231,7 @@ opened h = opened_as h.one.span h
 
 -- an event in its span
 abbrev pub said : Level → List ℕ → Held → Held
-said level text h = record h { state = event_told level text [] h.one.span h.state }
+said level text h = record h { state = event_emitted level text [] h.one.span h.state }
 
 -- a line of a package may say how it ended
 abbrev pub noted : List ℕ → Running → Running
@@ -254,30 +254,30 @@ abbrev pub level_of_line : Bool → Level
 level_of_line is_error = if is_error then Error else Info
 
 -- reports the line that it has printed
-abbrev pub line_told : Held → Held
-line_told h =
+abbrev pub line_emitted : Held → Held
+line_emitted h =
     line_of (level_of_line h.one.is_error) h.one.part
     (record h { one = record h.one { part = []; is_error = false } })
 
-abbrev pub part_told : Held → Held
-part_told h = if is_empty h.one.part then h else line_told h
+abbrev pub part_emitted : Held → Held
+part_emitted h = if is_empty h.one.part then h else line_emitted h
 
 abbrev pub span_ended : Ending → List Field → Option Id → Held → GoState
 span_ended ending rest (Some id) h =
-    told h.one.above (close_call h.state.moment id h.one.above)
-    (event_told (level_of ending) (word_of ending) rest (Some id) h.state)
-span_ended ending rest None h = quiet_told ending h.one.name rest h.one.above h.state
+    emitted h.one.parent (close_call h.state.moment id h.one.parent)
+    (event_emitted (level_of ending) (word_of ending) rest (Some id) h.state)
+span_ended ending rest None h = quiet_emitted ending h.one.name rest h.one.parent h.state
 
 -- it runs no longer
 abbrev pub finished : Ending → Option (List ℕ) → Held → GoState
 finished ending elapsed h =
-    let last = part_told h in
+    let last = part_emitted h in
     span_ended ending (end_fields elapsed last.one) last.one.span last
 
 -- its span closes, if it has one, and nothing is reported of an end
 abbrev pub only_closed : Option Id → Held → GoState
 only_closed None h = h.state
-only_closed (Some id) h = told h.one.above (close_call h.state.moment id h.one.above) h.state
+only_closed (Some id) h = emitted h.one.parent (close_call h.state.moment id h.one.parent) h.state
 
 -- the whole name of a test, or with an empty name the path of its package
 abbrev pub name_at_first : List ℕ → List ℕ → List ℕ
@@ -288,7 +288,7 @@ begun path test = record {
   path = path;
   test = test;
   name = name_at_first path test;
-  above = None;
+  parent = None;
   span = None;
   part = [];
   is_error = false;
@@ -354,7 +354,7 @@ shown_name None one = whole_name one
 -- in which its span opened.
 abbrev pub placed_in : Option Id → Option Running → Running → Running
 placed_in root outer one = record one {
-  above = span_of root outer;
+  parent = span_of root outer;
   name = if is_some one.span then one.name else shown_name outer one;
 }
 
@@ -400,11 +400,11 @@ begun_in path test h =
 
 -- a line that isn't ended yet comes before what starts after it
 abbrev pub ran : List ℕ → List ℕ → GoState → GoState
-ran path test s = begun_in path test (started (opened (part_told (above_held path test s))))
+ran path test s = begun_in path test (started (opened (part_emitted (above_held path test s))))
 
 -- reports the line that this string ends
-abbrev pub told_if_ended : List ℕ → Held → Held
-told_if_ended text h = if ends_line text then line_told h else h
+abbrev pub emitted_if_ended : List ℕ → Held → Held
+emitted_if_ended text h = if ends_line text then line_emitted h else h
 
 -- a string after what is printed of a line; an error makes its line an error
 abbrev pub more_printed : Bool → List ℕ → Held → Held
@@ -418,11 +418,11 @@ more_printed is_error text h =
 
 -- a string that isn't a frame
 abbrev pub text_printed : Bool → List ℕ → Held → Held
-text_printed is_error text h = told_if_ended text (more_printed is_error text h)
+text_printed is_error text h = emitted_if_ended text (more_printed is_error text h)
 
 -- a frame ends the line before it
 abbrev pub frame_printed : List ℕ → Held → Held
-frame_printed text h = framed (without_line_end text) (part_told h)
+frame_printed text h = framed (without_line_end text) (part_emitted h)
 
 abbrev pub fails_as : Kind → Bool
 fails_as Plain = false
@@ -486,15 +486,15 @@ builds_said level [] h = h
 builds_said level (text ∷ later) h = builds_said level later (build_said level text h)
 
 -- reports the build output in its package
-abbrev pub texts_told : Level → Build → GoState → GoState
-texts_told level build s = kept (builds_said level build.texts (held build.path [] s))
+abbrev pub texts_emitted : Level → Build → GoState → GoState
+texts_emitted level build s = kept (builds_said level build.texts (held build.path [] s))
 
-abbrev pub told_of_build : Level → Option Build → GoState → GoState
-told_of_build level None s = s
-told_of_build level (Some build) s = texts_told level build s
+abbrev pub emitted_of_build : Level → Option Build → GoState → GoState
+emitted_of_build level None s = s
+emitted_of_build level (Some build) s = texts_emitted level build s
 
-abbrev pub build_told : Level → List ℕ → GoState → GoState
-build_told level path s = told_of_build level (named path s.builds) (without_build path s)
+abbrev pub build_emitted : Level → List ℕ → GoState → GoState
+build_emitted level path s = emitted_of_build level (named path s.builds) (without_build path s)
 
 -- what still runs of a package comes to this end, from the last name on: a test ends after those in
 -- it, and is nested in those of earlier names
@@ -531,10 +531,10 @@ abbrev pub test_ended : Ending → List ℕ → Option (List ℕ) → Held → G
 test_ended ending test elapsed h =
     if bytes_eq h.one.test test then finished ending elapsed h
     else
-    let above : Held = opened h in
-    kept (record above {
-      state = quiet_told ending (own_name above.one.test test)
-          (elapsed_fields elapsed) above.one.span above.state;
+    let parent : Held = opened h in
+    kept (record parent {
+      state = quiet_emitted ending (own_name parent.one.test test)
+          (elapsed_fields elapsed) parent.one.span parent.state;
     })
 
 -- the build of this package prints no more lines
@@ -561,7 +561,7 @@ is_aside line s = is_empty s.building || is_progress line
 abbrev pub takes_plain : List ℕ → GoState → GoState
 takes_plain line s =
     if is_package_frame line then s
-    else if is_aside line s then event_told (level_of_text line) line [] s.last s
+    else if is_aside line s then event_emitted (level_of_text line) line [] s.last s
     else kept (said Error line (opened (held s.building [] s)))
 
 abbrev pub takes_failure : Option (List ℕ) → List ℕ → GoState → GoState
@@ -609,7 +609,7 @@ kind_in value = kind_named (unwrap_or (text_at (codes "OutputType") value) [])
 abbrev pub printed_if : Kind → List ℕ → List ℕ → Option (List ℕ) → GoState → Option GoState
 printed_if kind path test None s = None
 printed_if kind path test (Some text) s =
-    Some (printed kind path test text (build_told Warn path s))
+    Some (printed kind path test text (build_emitted Warn path s))
 
 abbrev pub build_printed_if : List ℕ → Option (List ℕ) → GoState → Option GoState
 build_printed_if path None s = None
@@ -638,8 +638,8 @@ acted action path test value s =
     then build_printed_if path (text_at (codes "Output") value) s
     else if bytes_eq action (codes "output")
     then printed_if (kind_in value) path test (text_at (codes "Output") value) s
-    else if bytes_eq action (codes "build-fail") then Some (build_told Error path s)
-    else Some (moved action path test (elapsed_in value) (build_told Warn path s))
+    else if bytes_eq action (codes "build-fail") then Some (build_emitted Error path s)
+    else Some (moved action path test (elapsed_in value) (build_emitted Warn path s))
 
 abbrev pub acted_for : Option (List ℕ) → Option (List ℕ) → Json → GoState → Option GoState
 acted_for (Some action) (Some path) value s =
@@ -674,15 +674,15 @@ go_takes s line None = Some (handed_out (takes_text line s))
 go_takes s line (Some value) = option_map handed_out (takes_json value (timed value s))
 
 -- the first key that an unknown line lacks
-abbrev pub lack_in : Json → Lack
-lack_in value =
+abbrev pub problem_in : Json → Problem
+problem_in value =
     if not (is_some (text_at (codes "Action") value)) then Action
     else if not (is_some (package_of value)) then Package
     else Output
 
-abbrev pub go_lacks : Option Json → Lack
-go_lacks None = Object
-go_lacks (Some value) = lack_in value
+abbrev pub go_problem : Option Json → Problem
+go_problem None = Object
+go_problem (Some value) = problem_in value
 
 -- how many names aren't in the list
 abbrev pub more_text : ℕ → List ℕ
@@ -735,16 +735,16 @@ abbrev pub packages_left : List (List ℕ × Tests) → GoState → GoState
 packages_left [] s = s
 packages_left (one ∷ others) s = packages_left others (package_left one.1 s)
 
--- reports the build output of a package that doesn't run, in a span of its own
+-- reports the build output of a package that doesn't run, in a separate span
 abbrev pub build_last : Build → GoState → GoState
 build_last build s =
     let all : Held = builds_said Warn build.texts (holds (begun build.path []) s) in
     only_closed all.one.span all
 
 -- reports what builds printed, one after the other, when no package runs
-abbrev pub builds_told : List (List ℕ × Build) → GoState → GoState
-builds_told [] s = s
-builds_told (one ∷ others) s = builds_told others (build_last one.1 s)
+abbrev pub builds_emitted : List (List ℕ × Build) → GoState → GoState
+builds_emitted [] s = s
+builds_emitted (one ∷ others) s = builds_emitted others (build_last one.1 s)
 
 -- no package is running
 abbrev pub packages_ended : GoState → GoState
@@ -752,7 +752,7 @@ packages_ended s = packages_left s.packages (record s { packages = [] })
 
 -- nothing is running, and nothing is left that a build printed
 abbrev pub all_ended : GoState → GoState
-all_ended s = builds_told s.builds (packages_ended (record s { builds = [] }))
+all_ended s = builds_emitted s.builds (packages_ended (record s { builds = [] }))
 
 abbrev pub go_ends : GoState → List Call
 go_ends s =

@@ -27,9 +27,9 @@ IsAlone tests test = (outer : List ℕ) → IsIn test outer → span_in tests ou
 -- The span of the nearest test that it is nested in and that runs and has a span; otherwise that of
 -- the package.
 abbrev pub IsParent : Tests → List ℕ → Option Id → Type 0
-IsParent tests test above =
-    ((outer : List ℕ) × (span : Id) × IsNearest tests test outer span × (above ≡ Some span))
-    ⊎ (IsAlone tests test × (above ≡ span_in tests []))
+IsParent tests test parent =
+    ((outer : List ℕ) × (span : Id) × IsNearest tests test outer span × (parent ≡ Some span))
+    ⊎ (IsAlone tests test × (parent ≡ span_in tests []))
 
 -- a test, or one that it is nested in
 abbrev pub IsAtOrIn : List ℕ → List ℕ → Type 0
@@ -44,22 +44,22 @@ pub record TakesPrinted (tests : Tests) (test name : List ℕ) : Type 0 where
 
 -- a package is at the root, and a test in its parent
 abbrev pub IsPlace : Tests → List ℕ → Option Id → Type 0
-IsPlace tests name above =
-    ((is_empty name ≡ true) × (above ≡ None))
-    ⊎ ((is_empty name ≡ false) × IsParent tests name above)
+IsPlace tests name parent =
+    ((is_empty name ≡ true) × (parent ≡ None))
+    ⊎ ((is_empty name ≡ false) × IsParent tests name parent)
 
 -- a span opens in this parent, or a line is an event in the span of the test itself
 abbrev pub IsPlacedCall : Option Id → Option Id → Call → Type 0
-IsPlacedCall above own (New attributes context) = context.current ≡ above
-IsPlacedCall above own (Event event context) = (context.current ≡ own) × (is_some own ≡ true)
-IsPlacedCall above own (Clone id) = ⊥
-IsPlacedCall above own (Record id fields) = ⊥
-IsPlacedCall above own (Close id context) = ⊥
+IsPlacedCall parent own (New attributes context) = context.current ≡ parent
+IsPlacedCall parent own (Event event context) = (context.current ≡ own) × (is_some own ≡ true)
+IsPlacedCall parent own (Clone id) = ⊥
+IsPlacedCall parent own (Record id fields) = ⊥
+IsPlacedCall parent own (Close id context) = ⊥
 
 abbrev pub ArePlacedCalls : Option Id → Option Id → List Call → Type 0
-ArePlacedCalls above own [] = ⊤
-ArePlacedCalls above own (call ∷ calls) =
-    IsPlacedCall above own call × ArePlacedCalls above own calls
+ArePlacedCalls parent own [] = ⊤
+ArePlacedCalls parent own (call ∷ calls) =
+    IsPlacedCall parent own call × ArePlacedCalls parent own calls
 
 -- What a step adds for a test. The calls are those of the test itself, of the nearest that it is
 -- nested in and that runs, or of the package: its span opens in its place, and its lines are events
@@ -67,8 +67,8 @@ ArePlacedCalls above own (call ∷ calls) =
 pub record PlacesCalls (path test : List ℕ) (s t : GoState) : Type 0 where
   pub name : List ℕ
   pub takes : TakesPrinted (tests_of path s) test name
-  pub above : Option Id
-  pub place : IsPlace (tests_of path s) name above
+  pub parent : Option Id
+  pub place : IsPlace (tests_of path s) name parent
   pub calls : List Call
   pub adds : t.calls ≡ s.calls ++ calls
-  pub placed : ArePlacedCalls above (span_in (tests_of path t) name) calls
+  pub placed : ArePlacedCalls parent (span_in (tests_of path t) name) calls

@@ -7,8 +7,8 @@ use Rattle.tracing_tree_layer.specs.declared.call.Call.{Call}
 use Rattle.tracing_tree_layer.specs.declared.call.Call.TheVariants.{New, Clone, Record, Event, Close}
 use Rattle.tracing_tree_lines.specs.Lines.Spelled.{is_skipped}
 use Rattle.ttree_source.specs.Marks.{begins}
-use Rattle.ttree_source.specs.Source.{hear_line}
-use Rattle.ttree_source.specs.Told.{shown}
+use Rattle.ttree_source.specs.Source.{interpret_line}
+use Rattle.ttree_source.specs.Calls.{shown}
 use Rattle.ttree_source.specs.Values.{text_at}
 use Rattle.ttree_go_test.specs.declared.go_test.running.Kind.{Kind}
 use Rattle.ttree_go_test.specs.declared.go_test.tally.Ending.{Ending}
@@ -62,7 +62,7 @@ text_added s (Some print) =
 abbrev pub texts_added : GoState → List (List ℕ) → List Printed
 texts_added s [] = []
 texts_added s (line ∷ lines) =
-    text_added s (print_of line) ++ texts_added (hear_line go_takes s line).source lines
+    text_added s (print_of line) ++ texts_added (interpret_line go_takes s line).source lines
 
 -- what is of this test
 abbrev pub text_by : List ℕ → List ℕ → Printed → List ℕ

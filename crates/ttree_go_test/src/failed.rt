@@ -4,7 +4,7 @@ ghost use Rattle.std.specs.Prelude.{◌≡◌, ◌++◌, ◌∷◌, ◌&&◌, �
 ghost use Rattle.std.specs.BTreeSet.{contains_text};
 ghost use Rattle.json.specs.Value.{value_view};
 ghost use Rattle.ttree_go_test.specs.GoTest.{go_takes, has_failed};
-ghost use Rattle.ttree_go_test.specs.Failed.{Knows, all_released, forgotten, is_bad, is_good, is_inner, is_open, is_over, kept_in, kept_shown, line_kept, line_shown, line_taken, none_failed, outermost, package_released, path_of, released, released_each, released_one, says, someone_says, told_of, tests_released, untold_of, value_taken, verdict_in, verdict_of, with_line, with_untold, without_untold};
+ghost use Rattle.ttree_go_test.specs.Failed.{Knows, all_released, forgotten, is_bad, is_good, is_inner, is_open, is_over, kept_in, kept_shown, line_kept, line_shown, line_taken, none_failed, outermost, package_released, path_of, released, released_each, released_one, says, someone_says, emitted_of, tests_released, pending_of, value_taken, verdict_in, verdict_of, with_line, with_pending, without_pending};
 ghost use Rattle.ttree_go_test.specs.Names.{without};
 
 use crate::go_test::{GoTest, package_of, test_of};
@@ -17,7 +17,7 @@ use std::mem;
 use tracing_tree_base::text::Text;
 use tracing_tree_layer::call::Call;
 use tracing_tree_time::Moment;
-use ttree_source::notes::Lack;
+use ttree_source::notes::Problem;
 use ttree_source::source::Source;
 use ttree_source::values::{text_at, value_of};
 
@@ -33,7 +33,7 @@ enum Verdict {
 
 // A line that hasn't been reported yet.
 #[derive(Drop)]
-struct Kept {
+struct HeldLine {
     // Empty if the line is the package's.
     test: Text,
     // What the line says about the end of that test.
@@ -44,14 +44,14 @@ struct Kept {
 // Lines that haven't been reported yet, in their order.
 #[derive(Drop)]
 struct Lines {
-    kept: Vec<Kept>,
+    kept: Vec<HeldLine>,
 }
 
 impl Model for Lines {
     ghost use Rattle.std.specs.Prelude.{List};
-    ghost use Rattle.ttree_go_test.specs.declared.failed.Kept.{Kept};
+    ghost use Rattle.ttree_go_test.specs.declared.failed.HeldLine.{HeldLine};
 
-    ghost Value = { List Kept };
+    ghost Value = { List HeldLine };
 
     ghost view = { λ l. l.kept.items };
 }
@@ -65,7 +65,7 @@ impl Lines {
         }
     }
 
-    fn push(&mut self, one: Kept) -> Result<(), AllocError>
+    fn push(&mut self, one: HeldLine) -> Result<(), AllocError>
         ensures { OnOk result (self.new ≡ self.old ++ one ∷ []) }
     {
         Ok(self.kept.push(one)?)
@@ -129,11 +129,11 @@ impl Failed {
     }
 
     // Returns the calls, and empties the list.
-    fn told(&mut self) -> Vec<Call>
-        ensures told { result.items ≡ self.old.shown.calls }
+    fn emitted(&mut self) -> Vec<Call>
+        ensures emitted { result.items ≡ self.old.shown.calls }
         ensures rest { self.new ≡ record self.old { shown = record self.old.shown { calls = [] } } }
     {
-        self.shown.told()
+        self.shown.emitted()
     }
 
     // Counts a line. Returns whether it is known.
@@ -147,8 +147,8 @@ impl Failed {
             (go_takes self.old.whole line.now (option_map (λ v. value_view v.now) value.entry))
             self.old self.new known) }
     {
-        let told = self.whole.take(alloc, line, value)?;
-        Ok(told.is_some())
+        let emitted = self.whole.take(alloc, line, value)?;
+        Ok(emitted.is_some())
     }
 
     // Takes a line that is known.
@@ -176,7 +176,7 @@ impl Failed {
         if is_good(verdict) && !self.shown.runs(path.as_bytes(), test.as_bytes()) {
             return self.forget(path, test);
         }
-        self.tell(path, test)?;
+        self.emit(path, test)?;
         show(&mut self.shown, line, Some(value))
     }
 
@@ -190,60 +190,60 @@ impl Failed {
     ) -> Result<(), AllocError>
         ensures { OnOk result (self.new ≡ line_kept path.now test.now verdict line.now self.old) }
     {
-        let one = Kept {
+        let one = HeldLine {
             test: Text::from_str(self.alloc, test)?,
             verdict,
             line: Text::from_str(self.alloc, line)?,
         };
-        let mut untold = self.take_untold(path)?;
-        add_line(self.alloc, &mut untold, outermost(test), one)?;
-        self.put_untold(path, untold)
+        let mut pending = self.take_pending(path)?;
+        add_line(self.alloc, &mut pending, outermost(test), one)?;
+        self.put_pending(path, pending)
     }
 
     // Drops the held lines of a top-level test, or of a package if the name is empty.
     fn forget(&mut self, path: &str, test: &str) -> Result<(), AllocError>
         ensures { OnOk result (self.new ≡ forgotten path.now test.now self.old) }
     {
-        let mut untold = self.take_untold(path)?;
+        let mut pending = self.take_pending(path)?;
         if test.is_empty() {
             return Ok(());
         }
-        drop(untold.take(test.as_bytes())?);
-        self.put_untold(path, untold)
+        drop(pending.take(test.as_bytes())?);
+        self.put_pending(path, pending)
     }
 
     // Reports the held lines of a top-level test, or of a package if the name is empty.
-    fn tell(&mut self, path: &str, test: &str) -> Result<(), AllocError>
-        ensures { OnOk result (self.new ≡ told_of path.now test.now self.old) }
+    fn emit(&mut self, path: &str, test: &str) -> Result<(), AllocError>
+        ensures { OnOk result (self.new ≡ emitted_of path.now test.now self.old) }
     {
-        let mut untold = self.take_untold(path)?;
+        let mut pending = self.take_pending(path)?;
         if test.is_empty() {
-            return release_package(&mut self.shown, self.alloc, path.as_bytes(), untold);
+            return release_package(&mut self.shown, self.alloc, path.as_bytes(), pending);
         }
-        let lines = take_lines(self.alloc, &mut untold, test)?;
-        self.put_untold(path, untold)?;
+        let lines = take_lines(self.alloc, &mut pending, test)?;
+        self.put_pending(path, pending)?;
         release(&mut self.shown, self.alloc, path.as_bytes(), lines)
     }
 
     // Takes out the held lines of a package.
-    fn take_untold(&mut self, path: &str) -> Result<Named<Lines>, AllocError>
-        ensures untold { IfOk result (λ untold. untold ≡ untold_of path.now self.old) }
-        ensures rest { OnOk result (self.new ≡ without_untold path.now self.old) }
+    fn take_pending(&mut self, path: &str) -> Result<Named<Lines>, AllocError>
+        ensures pending { IfOk result (λ pending. pending ≡ pending_of path.now self.old) }
+        ensures rest { OnOk result (self.new ≡ without_pending path.now self.old) }
     {
-        let untold = self.packages.take(path.as_bytes())?;
-        Ok(untold.unwrap_or(Named::new(self.alloc)))
+        let pending = self.packages.take(path.as_bytes())?;
+        Ok(pending.unwrap_or(Named::new(self.alloc)))
     }
 
     // Puts back the held lines of a package.
-    fn put_untold(&mut self, path: &str, untold: Named<Lines>) -> Result<(), AllocError>
-        ensures { OnOk result (self.new ≡ with_untold path.now untold self.old) }
+    fn put_pending(&mut self, path: &str, pending: Named<Lines>) -> Result<(), AllocError>
+        ensures { OnOk result (self.new ≡ with_pending path.now pending self.old) }
     {
-        self.packages.put(self.alloc, path.as_bytes(), untold)
+        self.packages.put(self.alloc, path.as_bytes(), pending)
     }
 }
 
 impl Source for Failed {
-    ghost use Rattle.ttree_go_test.specs.GoTest.{go_lacks};
+    ghost use Rattle.ttree_go_test.specs.GoTest.{go_problem};
     ghost use Rattle.ttree_go_test.specs.Failed.{failed_ended, failed_ends, failed_takes};
 
     ghost takes = { failed_takes };
@@ -252,7 +252,7 @@ impl Source for Failed {
 
     ghost ended = { failed_ended };
 
-    ghost lacks = { go_lacks };
+    ghost value_problem = { go_problem };
 
     fn take(
         &mut self,
@@ -264,11 +264,11 @@ impl Source for Failed {
             return Ok(None);
         }
         self.take_line(line, value)?;
-        Ok(Some(self.told()))
+        Ok(Some(self.emitted()))
     }
 
-    fn lack(value: Option<&Value<'_>>) -> Lack {
-        GoTest::lack(value)
+    fn problem(value: Option<&Value<'_>>) -> Problem {
+        GoTest::problem(value)
     }
 
     fn end(&mut self, alloc: Global) -> Result<Vec<Call>, AllocError> {
@@ -276,33 +276,33 @@ impl Source for Failed {
         release_all(&mut self.shown, alloc, packages)?;
         self.shown.leave_all()?;
         self.whole.leave_all()?;
-        let mut calls = self.shown.told();
+        let mut calls = self.shown.emitted();
         calls.push(self.whole.tally_call(alloc)?)?;
         Ok(calls)
     }
 }
 
 // Takes out the lines of a top-level test, or the package's own lines if the name is empty.
-fn take_lines(alloc: Global, untold: &mut Named<Lines>, test: &str) -> Result<Lines, AllocError>
-    ensures lines { IfOk result (λ lines. lines ≡ kept_in test.now untold.old) }
-    ensures rest { OnOk result (untold.new ≡ without test.now untold.old) }
+fn take_lines(alloc: Global, pending: &mut Named<Lines>, test: &str) -> Result<Lines, AllocError>
+    ensures lines { IfOk result (λ lines. lines ≡ kept_in test.now pending.old) }
+    ensures rest { OnOk result (pending.new ≡ without test.now pending.old) }
 {
-    let lines = untold.take(test.as_bytes())?;
+    let lines = pending.take(test.as_bytes())?;
     Ok(lines.unwrap_or(Lines::new(alloc)))
 }
 
 // Adds a line to those of a top-level test, or to the package's own lines if the name is empty.
 fn add_line(
     alloc: Global,
-    untold: &mut Named<Lines>,
+    pending: &mut Named<Lines>,
     test: &str,
-    one: Kept,
+    one: HeldLine,
 ) -> Result<(), AllocError>
-    ensures { OnOk result (untold.new ≡ with_line test.now one untold.old) }
+    ensures { OnOk result (pending.new ≡ with_line test.now one pending.old) }
 {
-    let mut lines = take_lines(alloc, untold, test)?;
+    let mut lines = take_lines(alloc, pending, test)?;
     lines.push(one)?;
-    untold.put(alloc, test.as_bytes(), lines)
+    pending.put(alloc, test.as_bytes(), lines)
 }
 
 // Reports the held lines of packages that didn't end.
@@ -314,8 +314,8 @@ fn release_all(
     ensures { OnOk result (shown.new ≡ all_released packages shown.old) }
 {
     let mut packages = packages;
-    while let Some((path, untold)) = packages.take_first()? {
-        release_package(shown, alloc, path.as_slice(), untold)?;
+    while let Some((path, pending)) = packages.take_first()? {
+        release_package(shown, alloc, path.as_slice(), pending)?;
     }
     Ok(())
 }
@@ -325,13 +325,13 @@ fn release_package(
     shown: &mut GoTest,
     alloc: Global,
     path: &[u8],
-    untold: Named<Lines>,
+    pending: Named<Lines>,
 ) -> Result<(), AllocError>
-    ensures { OnOk result (shown.new ≡ package_released path.now untold shown.old) }
+    ensures { OnOk result (shown.new ≡ package_released path.now pending shown.old) }
 {
-    let mut untold = untold;
-    let own = take_lines(alloc, &mut untold, "")?;
-    release_tests(shown, alloc, path, untold)?;
+    let mut pending = pending;
+    let own = take_lines(alloc, &mut pending, "")?;
+    release_tests(shown, alloc, path, pending)?;
     release(shown, alloc, path, own)
 }
 
@@ -367,7 +367,7 @@ fn release_one(
     alloc: Global,
     path: &[u8],
     over: &BTreeSet<String>,
-    one: &Kept,
+    one: &HeldLine,
 ) -> Result<(), AllocError>
     ensures { OnOk result (shown.new
         ≡ released_one path.now (contains_text over.now) one.now shown.old) }
@@ -394,7 +394,7 @@ fn show(shown: &mut GoTest, line: &str, value: Option<&Value<'_>>) -> Result<(),
 }
 
 // Reports a line that was held.
-fn show_kept(shown: &mut GoTest, alloc: Global, one: &Kept) -> Result<(), AllocError>
+fn show_kept(shown: &mut GoTest, alloc: Global, one: &HeldLine) -> Result<(), AllocError>
     ensures { OnOk result (shown.new ≡ kept_shown one.now shown.old) }
 {
     let line = one.line.as_str();
@@ -405,7 +405,7 @@ fn show_kept(shown: &mut GoTest, alloc: Global, one: &Kept) -> Result<(), AllocE
 
 // Returns the tests that passed or were skipped according to these lines, unless another line says
 // that they failed.
-fn tests_over(alloc: Global, kept: &[Kept]) -> Result<BTreeSet<String>, AllocError>
+fn tests_over(alloc: Global, kept: &[HeldLine]) -> Result<BTreeSet<String>, AllocError>
     ensures { IfOk result (λ over. contains_text over ≡ is_over kept.now) }
 {
     let mut over = good_tests(alloc, kept)?;
@@ -418,7 +418,7 @@ fn tests_over(alloc: Global, kept: &[Kept]) -> Result<BTreeSet<String>, AllocErr
 }
 
 // Returns the tests that passed or were skipped according to a line.
-fn good_tests(alloc: Global, kept: &[Kept]) -> Result<BTreeSet<String>, AllocError>
+fn good_tests(alloc: Global, kept: &[HeldLine]) -> Result<BTreeSet<String>, AllocError>
     ensures { IfOk result (λ good. contains_text good ≡ someone_says is_good kept.now) }
 {
     let mut good = BTreeSet::new(alloc);
@@ -431,7 +431,7 @@ fn good_tests(alloc: Global, kept: &[Kept]) -> Result<BTreeSet<String>, AllocErr
 }
 
 // Adds the test of a line if the line says that it passed or was skipped.
-fn note_good(alloc: Global, good: &mut BTreeSet<String>, one: &Kept) -> Result<(), AllocError>
+fn note_good(alloc: Global, good: &mut BTreeSet<String>, one: &HeldLine) -> Result<(), AllocError>
     ensures { OnOk result ((test : List ℕ) → contains_text good.new test
         ≡ (contains_text good.old test || says is_good one.now test)) }
 {
@@ -442,7 +442,7 @@ fn note_good(alloc: Global, good: &mut BTreeSet<String>, one: &Kept) -> Result<(
 }
 
 // Removes the test of a line if the line says that it failed.
-fn forget_bad(over: &mut BTreeSet<String>, one: &Kept)
+fn forget_bad(over: &mut BTreeSet<String>, one: &HeldLine)
     ensures { (test : List ℕ) → contains_text over.new test
         ≡ (contains_text over.old test && not (says is_bad one.now test)) }
 {

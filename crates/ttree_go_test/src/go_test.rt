@@ -3,16 +3,17 @@
 ghost use Rattle.std.specs.Prelude.{◌≡◌, ◌++◌, ◌∷◌, [], IfOk, OnOk, Option, None, Some, option_map};
 ghost use Rattle.ttree_go_test.specs.Names.{without};
 ghost use Rattle.json.specs.Value.{value_view};
-ghost use Rattle.ttree_go_test.specs.GoTest.{acted, build_printed_if, failed_counted, has_failed, is_aside, kind_in, level_of_text, moved, one_ended, package_counted, package_failed, packages_ended, printed_if, takes_plain, takes_value_as, test_ended, begun, counted, elapsed_in, ended, holds, kept, lack_in, nothing_run, package_ended, package_of, printed, ran, takes_text, takes_timed, takes_value, timed, test_of, above_held, all_ended, left_one, noted_left, package_left, packages_left, placed, runs, tally_call, left_over, build_over, built_after, package_over, package_started, held, running_as, tests_of, with_package, without_package};
+ghost use Rattle.ttree_go_test.specs.GoTest.{acted, build_printed_if, failed_counted, has_failed, is_aside, kind_in, level_of_text, moved, one_ended, package_counted, package_failed, packages_ended, printed_if, takes_plain, takes_value_as, test_ended, begun, counted, elapsed_in, ended, holds, kept, problem_in, nothing_run, package_ended, package_of, printed, ran, takes_text, takes_timed, takes_value, timed, test_of, above_held, all_ended, left_one, noted_left, package_left, packages_left, placed, runs, tally_call, left_over, build_over, built_after, package_over, package_started, held, running_as, tests_of, with_package, without_package};
 
 mod builds;
+mod emitting;
 mod running;
 mod tally;
-mod telling;
 mod text;
 
 use crate::names::Named;
 use builds::Build;
+use emitting::elapsed_fields;
 use json::Value;
 use running::{Kind, Running, owner, span_in};
 use std::alloc::{AllocError, Global};
@@ -20,7 +21,6 @@ use std::marker::Model;
 use std::mem;
 pub use tally::Tally;
 use tally::{Ending, Failing, more_names};
-use telling::elapsed_fields;
 use text::{is_package_frame, is_progress, own_name, up_to_space};
 use tracing_tree_base::Id;
 use tracing_tree_base::field::Fields;
@@ -29,11 +29,11 @@ use tracing_tree_base::text::Text;
 use tracing_tree_layer::call::Call;
 use tracing_tree_lines::lines::is_skipped;
 use tracing_tree_time::Moment;
+use ttree_source::calls::event_call;
 use ttree_source::marks::after_mark;
 use ttree_source::moments::moment_after;
-use ttree_source::notes::Lack;
+use ttree_source::notes::Problem;
 use ttree_source::source::Source;
-use ttree_source::told::event_call;
 use ttree_source::traces::begins_trace;
 use ttree_source::values::text_at;
 
@@ -136,8 +136,8 @@ impl GoTest {
     }
 
     // Returns the calls, and empties the list.
-    pub(crate) fn told(&mut self) -> Vec<Call>
-        ensures told { result.items ≡ self.old.calls }
+    pub(crate) fn emitted(&mut self) -> Vec<Call>
+        ensures emitted { result.items ≡ self.old.calls }
         ensures rest { self.new ≡ record self.old { calls = [] } }
     {
         mem::replace(&mut self.calls, Vec::new(self.alloc))
@@ -270,10 +270,10 @@ impl GoTest {
             return self.take_output(kind_in(value), path, test, text_at(value, "Output"));
         }
         if action == "build-fail" {
-            self.tell_build(Level::Error, path)?;
+            self.emit_build(Level::Error, path)?;
             return Ok(true);
         }
-        self.tell_build(Level::Warn, path)?;
+        self.emit_build(Level::Warn, path)?;
         self.step(action, path, test, elapsed_in(value))?;
         Ok(true)
     }
@@ -306,7 +306,7 @@ impl GoTest {
         let Some(text) = text else {
             return Ok(false);
         };
-        self.tell_build(Level::Warn, path)?;
+        self.emit_build(Level::Warn, path)?;
         self.output(kind, path, test, text)?;
         Ok(true)
     }
@@ -351,7 +351,7 @@ impl GoTest {
         ensures { OnOk result (self.new ≡ ran path.now test.now self.old) }
     {
         let mut owner = self.take_above(path, test)?;
-        self.tell_part(&mut owner)?;
+        self.emit_part(&mut owner)?;
         self.open(&mut owner)?;
         owner.has_begun = true;
         self.keep(owner)?;
@@ -513,7 +513,7 @@ impl GoTest {
     {
         let builds = mem::replace(&mut self.builds, Named::new(self.alloc));
         self.end_packages()?;
-        self.tell_builds(builds)
+        self.emit_builds(builds)
     }
 
     // Ends everything still running, one package after the other.
@@ -680,7 +680,7 @@ impl GoTest {
 }
 
 impl Source for GoTest {
-    ghost use Rattle.ttree_go_test.specs.GoTest.{go_takes, go_lacks, go_ended, go_ends};
+    ghost use Rattle.ttree_go_test.specs.GoTest.{go_takes, go_problem, go_ended, go_ends};
 
     ghost takes = { go_takes };
 
@@ -688,7 +688,7 @@ impl Source for GoTest {
 
     ghost ended = { go_ended };
 
-    ghost lacks = { go_lacks };
+    ghost value_problem = { go_problem };
 
     fn take(
         &mut self,
@@ -704,34 +704,34 @@ impl Source for GoTest {
             }
             None => self.take_text(line)?,
         }
-        Ok(Some(self.told()))
+        Ok(Some(self.emitted()))
     }
 
-    fn lack(value: Option<&Value<'_>>) -> Lack {
+    fn problem(value: Option<&Value<'_>>) -> Problem {
         match value {
-            Some(value) => lack_in(value),
-            None => Lack::Object,
+            Some(value) => problem_in(value),
+            None => Problem::Object,
         }
     }
 
     fn end(&mut self, alloc: Global) -> Result<Vec<Call>, AllocError> {
         self.leave_all()?;
-        let mut calls = self.told();
+        let mut calls = self.emitted();
         calls.push(self.tally_call(alloc)?)?;
         Ok(calls)
     }
 }
 
 // Returns the first missing key of an unknown line.
-fn lack_in(value: &Value<'_>) -> Lack
-    ensures { result ≡ lack_in (value_view value.now) }
+fn problem_in(value: &Value<'_>) -> Problem
+    ensures { result ≡ problem_in (value_view value.now) }
 {
     if text_at(value, "Action").is_none() {
-        Lack::Action
+        Problem::Action
     } else if package_of(value).is_none() {
-        Lack::Package
+        Problem::Package
     } else {
-        Lack::Output
+        Problem::Output
     }
 }
 

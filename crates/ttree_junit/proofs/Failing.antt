@@ -249,15 +249,15 @@ closes_times : (count : ℕ) (s : JunitState) → Keeps s (closed_times count s)
 closes_times zero s = refl
 closes_times (suc count) s = closes_times count (suite_closed s) ∙ closes_suite_if (innermost s.suites) (without_suite s)
 
-tells_counts : (s : JunitState) → Keeps s (tallied s)
-tells_counts s = choose s s.is_report _ s refl refl
+emits_counts : (s : JunitState) → Keeps s (tallied s)
+emits_counts s = choose s s.is_report _ s refl refl
 
 finishes : (s : JunitState) → Counts (cut_outcomes s) s (finished s)
 unfolding finished
 finishes s =
     let cut = elements_cut s in
     let left = class_left cut in
-    tells_counts (outside_shown (suites_closed left)) ∙ shows_outside (suites_closed left) ∙ closes_times (length left.suites) left ∙ leaves_class cut
+    emits_counts (outside_shown (suites_closed left)) ∙ shows_outside (suites_closed left) ∙ closes_times (length left.suites) left ∙ leaves_class cut
     ∙ cuts_times (length s.elements) s
 
 takes_rest : (unfinished : Unfinished) (rest : List ℕ) (s : JunitState) → Keeps s (rest_taken unfinished rest s)

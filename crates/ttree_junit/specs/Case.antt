@@ -3,7 +3,7 @@ use Rattle.std.specs.Prelude.{ℕ, ◌==◌, ◌||◌, ◌&&◌, Bool, true, fal
 use Rattle.tracing_tree_base.specs.declared.field.Field.{Field}
 use Rattle.tracing_tree_base.specs.declared.style.Level.{Level}
 use Rattle.tracing_tree_base.specs.declared.style.Level.TheVariants.{Trace, Debug, Info, Warn, Error}
-use Rattle.ttree_source.specs.Told.{message_field, shown}
+use Rattle.ttree_source.specs.Calls.{message_field, shown}
 use Rattle.ttree_junit.specs.Element.{attribute_in, is_off}
 use Rattle.ttree_junit.specs.Failure.{failure_rows}
 use Rattle.ttree_source.specs.Length.{length_text}

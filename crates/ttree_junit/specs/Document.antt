@@ -13,7 +13,7 @@ use Rattle.ttree_junit.specs.Junit.{JunitState}
 use Rattle.ttree_junit.specs.Reading.{at_start, cdata_added, finished, is_open, taken}
 use Rattle.ttree_junit.specs.declared.reading.Selection.{Selection}
 
--- a document as far as it is read, and whether it is truncated
+-- the part of a document that is read, and whether it is truncated
 pub record ReadDocument : Type 0 where
   pub state : JunitState
   pub is_cut : Bool

@@ -9,7 +9,7 @@ use Rattle.tracing_tree_base.specs.declared.style.Level.{Level}
 use Rattle.tracing_tree_base.specs.declared.style.Level.TheVariants.{Info, Warn, Error}
 use Rattle.tracing_tree_layer.specs.declared.call.Call.{Call}
 use Rattle.ttree_source.specs.Counts.{one_more}
-use Rattle.ttree_source.specs.Told.{close_call, event_call, message_field, record_call, shown, span_call}
+use Rattle.ttree_source.specs.Calls.{close_call, event_call, message_field, record_call, shown, span_call}
 use Rattle.xml.specs.Decoded.{cdata_decoded, text_decoded}
 use Rattle.xml.specs.Token.{XmlToken, start_tag, attribute, tag_end, empty_tag_end, end_tag, characters, cdata, skipped}
 use Rattle.ttree_junit.specs.Case.{case_of, event_fields, is_bare, level_of, outcome_of, span_fields, time_fields, with_cut, with_failure, with_printed, with_property, with_skip}
@@ -66,14 +66,14 @@ called call s = record s { calls = s.calls ++ call ∷ [] }
 
 -- a span opens
 abbrev pub opened : List ℕ → List Field → Option Id → JunitState → JunitState
-opened name fields above s =
-    record (called (span_call s.moment name fields above) s) { next = one_more s.next }
+opened name fields parent s =
+    record (called (span_call s.moment name fields parent) s) { next = one_more s.next }
 
 abbrev pub evented : Level → List Field → Option Id → JunitState → JunitState
 evented level fields at s = called (event_call s.moment level fields at) s
 
 abbrev pub closed : Id → Option Id → JunitState → JunitState
-closed span above s = called (close_call s.moment span above) s
+closed span parent s = called (close_call s.moment span parent) s
 
 -- ---- what is innermost
 
@@ -440,7 +440,7 @@ cut_times (suc count) s = cut_times count (innermost_cut s)
 abbrev pub elements_cut : JunitState → JunitState
 elements_cut s = cut_times (length s.elements) s
 
--- a suite in which a case is open is shown
+-- a suite with an open case is shown
 abbrev pub cut_with : Suite → JunitState → JunitState
 cut_with suite s =
     if is_suite_hidden suite s && not s.in_case then suite_hidden suite s else shut suite s

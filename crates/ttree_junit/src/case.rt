@@ -13,8 +13,8 @@ use std::marker::Model;
 use tracing_tree_base::field::{Field, Fields};
 use tracing_tree_base::style::Level;
 use tracing_tree_base::text::Text;
+use ttree_source::calls::{message_field, shown};
 use ttree_source::length::length_text;
-use ttree_source::told::{message_field, shown};
 
 // How a case ended.
 #[derive(Clone, Copy, Debug, PartialEq, Eq)]

@@ -24,7 +24,7 @@ use tracing_tree_base::style::Level;
 use tracing_tree_base::text::Text;
 use tracing_tree_layer::call::Call;
 use tracing_tree_time::Moment;
-use ttree_source::told::{close_call, event_call, message_field, record_call, shown, span_call};
+use ttree_source::calls::{close_call, event_call, message_field, record_call, shown, span_call};
 use xml::Token;
 
 /// Which cases and suites are shown.
@@ -348,11 +348,11 @@ impl Junit {
     }
 
     // Opens a span, and returns its id.
-    fn open(&mut self, name: &str, fields: Fields, above: Option<Id>) -> Result<Id, AllocError>
-        ensures opened { OnOk result (self.new ≡ opened name.now fields above self.old) }
+    fn open(&mut self, name: &str, fields: Fields, parent: Option<Id>) -> Result<Id, AllocError>
+        ensures opened { OnOk result (self.new ≡ opened name.now fields parent self.old) }
         ensures span { IfOk result (λ span. span ≡ id_of self.old.next) }
     {
-        let call = span_call(self.alloc, self.moment, name, fields, above)?;
+        let call = span_call(self.alloc, self.moment, name, fields, parent)?;
         self.calls.push(call)?;
         let span = Id(self.next);
         self.next = self.next.saturating_add(1);
@@ -366,10 +366,10 @@ impl Junit {
         Ok(self.calls.push(call)?)
     }
 
-    fn close(&mut self, span: Id, above: Option<Id>) -> Result<(), AllocError>
-        ensures { OnOk result (self.new ≡ closed span above self.old) }
+    fn close(&mut self, span: Id, parent: Option<Id>) -> Result<(), AllocError>
+        ensures { OnOk result (self.new ≡ closed span parent self.old) }
     {
-        Ok(self.calls.push(close_call(self.moment, span, above))?)
+        Ok(self.calls.push(close_call(self.moment, span, parent))?)
     }
 
     fn begin_suite(&mut self) -> Result<(), AllocError>
@@ -379,8 +379,8 @@ impl Junit {
         let name = Text::from_str(self.alloc, self.tag.value("name"))?;
         let nanoseconds = nanoseconds_of(self.tag.value("time"));
         let before = self.before();
-        let above = self.innermost_span();
-        let span = self.open(name.as_str(), Fields::new(self.alloc), above)?;
+        let parent = self.innermost_span();
+        let span = self.open(name.as_str(), Fields::new(self.alloc), parent)?;
         Ok(
             self.suites.push(Suite {
                 name,
@@ -492,8 +492,8 @@ impl Junit {
         ensures { OnOk result (self.new ≡ class_opened self.old) }
     {
         let name = Text::from_str(self.alloc, self.case.classname())?;
-        let above = self.innermost_span();
-        let span = self.open(name.as_str(), Fields::new(self.alloc), above)?;
+        let parent = self.innermost_span();
+        let span = self.open(name.as_str(), Fields::new(self.alloc), parent)?;
         self.class = Some(Class { name, span });
         Ok(())
     }
@@ -584,11 +584,11 @@ impl Junit {
     {
         let name = Text::from_str(self.alloc, self.case.name())?;
         let fields = self.case.fields()?;
-        let above = self.case_span();
-        let span = self.open(name.as_str(), fields, above)?;
+        let parent = self.case_span();
+        let span = self.open(name.as_str(), fields, parent)?;
         self.show_rows(span)?;
         self.show_end(span)?;
-        self.close(span, above)
+        self.close(span, parent)
     }
 
     fn show_rows(&mut self, span: Id) -> Result<(), AllocError>

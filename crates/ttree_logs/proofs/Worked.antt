@@ -5,12 +5,12 @@ use Rattle.tracing_tree_base.specs.declared.context.Moment.{Moment}
 use Rattle.tracing_tree_spans.specs.Registry.Ids.{id_of}
 use Rattle.tracing_tree_base.specs.declared.field.Field.{Field}
 use Rattle.tracing_tree_base.specs.declared.style.Level.TheVariants.{Debug, Error, Info, Warn}
-use Rattle.ttree_source.specs.Told.{close_call, event_call, message_field, shown, span_call}
+use Rattle.ttree_source.specs.Calls.{close_call, event_call, message_field, shown, span_call}
 use Rattle.ttree_source.specs.JsonText.{json_text}
 use Rattle.ttree_logs.specs.LogFields.{value_fields}
 use Rattle.ttree_logs.specs.LogLine.{event_fields, group_in, level_in, level_named, same_word, used_keys}
 use Rattle.ttree_logs.specs.LogTime.{nanoseconds_of}
-use Rattle.ttree_logs.specs.Logs.{LogsState, id_field, line_told, logs_ends, no_group}
+use Rattle.ttree_logs.specs.Logs.{LogsState, id_field, line_emitted, logs_ends, no_group}
 
 -- ---- levels
 
@@ -147,28 +147,28 @@ no_trace_if_another_key_is_asked_for = refl
 
 module _ (moment : Moment) where
   abbrev pub after_request : LogsState
-  after_request = record (line_told [] (Some request) (no_group 1 moment)) { calls = [] }
+  after_request = record (line_emitted [] (Some request) (no_group 1 moment)) { calls = [] }
 
   pub a_group_opens_with_its_first_line :
-      (line_told [] (Some request) (no_group 1 moment)).calls
+      (line_emitted [] (Some request) (no_group 1 moment)).calls
       ≡ span_call moment (codes "trace") (id_field (codes "4b") ∷ []) None
       ∷ event_call moment Info request_fields (Some (id_of 1)) ∷ []
   unfolding same_word
   a_group_opens_with_its_first_line = refl
 
   pub it_opens_once :
-      (line_told [] (Some request) after_request).calls
+      (line_emitted [] (Some request) after_request).calls
       ≡ event_call moment Info request_fields (Some (id_of 1)) ∷ []
   unfolding same_word
   it_opens_once = refl
 
   pub a_line_without_a_group_is_at_the_root :
-      (line_told [] (Some unnamed) after_request).calls ≡ event_call moment Info (event_fields None unnamed) None ∷ []
+      (line_emitted [] (Some unnamed) after_request).calls ≡ event_call moment Info (event_fields None unnamed) None ∷ []
   unfolding same_word
   a_line_without_a_group_is_at_the_root = refl
 
   pub a_panic_is_in_the_last_group :
-      (line_told (codes "panic: a") None after_request).calls
+      (line_emitted (codes "panic: a") None after_request).calls
       ≡ event_call moment Error (message_field (codes "panic: a") ∷ []) (Some (id_of 1)) ∷ []
   unfolding same_word
   a_panic_is_in_the_last_group = refl
@@ -177,6 +177,6 @@ module _ (moment : Moment) where
   unfolding same_word
   the_last_group_closes_at_the_end = refl
 
-  pub after_the_root_nothing_closes : logs_ends (line_told [] (Some unnamed) after_request) ≡ []
+  pub after_the_root_nothing_closes : logs_ends (line_emitted [] (Some unnamed) after_request) ≡ []
   unfolding same_word
   after_the_root_nothing_closes = refl

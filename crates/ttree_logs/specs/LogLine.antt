@@ -9,7 +9,7 @@ use Rattle.tracing_tree_base.specs.declared.field.Field.{Field}
 use Rattle.tracing_tree_base.specs.declared.style.Level.{Level}
 use Rattle.tracing_tree_base.specs.declared.style.Level.TheVariants.{Trace, Debug, Info, Warn, Error}
 use Rattle.ttree_source.specs.Marks.{is_empty}
-use Rattle.ttree_source.specs.Told.{message_field}
+use Rattle.ttree_source.specs.Calls.{message_field}
 use Rattle.ttree_logs.specs.LogFields.{Used, members_fields}
 use Rattle.ttree_logs.specs.LogTime.{is_time, moment_of_word}
 
@@ -38,7 +38,7 @@ group_keys =
 
 -- ---- words
 
--- a word: a nonempty string, or a number as it is written
+-- a word: a nonempty string, or a number as written
 abbrev pub word_of : Json → Option (List ℕ)
 word_of null = None
 word_of (boolean _) = None
@@ -149,7 +149,7 @@ level_named word = level_of_name (bare_level word)
 abbrev pub level_at : List ℕ → Json → Option Level
 level_at key value = option_and_then level_named (word_at key value)
 
--- the key at which a line names its level
+-- the key of a line's level
 abbrev pub level_key : Json → Option (List ℕ)
 level_key value = if_level (first_key level_keys value) where
   if_level : Option (List ℕ) → Option (List ℕ)
@@ -187,7 +187,7 @@ pub record Group : Type 0 where
   pub id : List ℕ
   pub process : Option (List ℕ)
 
--- the keys of groups: the one that was asked for, otherwise those of traces and requests
+-- the keys of groups: the given one, otherwise those of traces and requests
 abbrev pub keys_of_groups : Option (List ℕ) → List (List ℕ)
 keys_of_groups (Some asked) = asked ∷ []
 keys_of_groups None = group_keys
@@ -216,7 +216,7 @@ abbrev pub group_at : Option (List ℕ) → Json → Option Group
 group_at (Some key) value = group_of (group_name key) (word_at key value) None
 group_at None value = unit_in value
 
--- the group of a line: that at the key that was asked for, otherwise its trace, its request or its
+-- the group of a line: that at the given key, otherwise its trace, its request or its
 -- unit
 abbrev pub group_in : Option (List ℕ) → Json → Option Group
 group_in (Some asked) value = group_of asked (word_along asked value) None

@@ -9,15 +9,15 @@ use Rattle.tracing_tree_base.specs.declared.field.Field.{Field}
 use Rattle.tracing_tree_layer.specs.declared.call.Call.{Call}
 use Rattle.tracing_tree_lines.specs.Lines.Spelled.{is_skipped}
 use Rattle.ttree_source.specs.Source.{Step}
-use Rattle.ttree_source.specs.declared.notes.Lack.{Lack}
-use Rattle.ttree_source.specs.declared.notes.Lack.TheVariants.{Object}
+use Rattle.ttree_source.specs.declared.notes.Problem.{Problem}
+use Rattle.ttree_source.specs.declared.notes.Problem.TheVariants.{Object}
 use Rattle.ttree_source.specs.Counts.{one_more}
-use Rattle.ttree_source.specs.Told.{close_call, event_call, shown, span_call}
+use Rattle.ttree_source.specs.Calls.{close_call, event_call, shown, span_call}
 use Rattle.ttree_source.specs.Traces.{plain_event}
 use Rattle.ttree_logs.specs.Groups.{span_of, with_span}
 use Rattle.ttree_logs.specs.LogLine.{Group, event_fields, group_in, group_key, level_in, moment_in}
 
--- What is known of the groups: the key that was asked for, the id of the next span, the moment of
+-- What is known of the groups: the given key, the id of the next span, the moment of
 -- the last line, the span of each group, that of the last line's group, and the calls that weren't
 -- returned yet.
 pub record LogsState : Type 0 where
@@ -39,8 +39,8 @@ no_group next moment = record {
   calls = [];
 }
 
-abbrev pub told : Call → LogsState → LogsState
-told call s = record s { calls = s.calls ++ call ∷ [] }
+abbrev pub emitted : Call → LogsState → LogsState
+emitted call s = record s { calls = s.calls ++ call ∷ [] }
 
 -- ---- groups
 
@@ -64,7 +64,7 @@ group_fields group = id_field group.id ∷ [] ++ process_fields group.process
 
 -- the span of a new group opens, and nothing closes: no line says that a group ends
 abbrev pub opened : Group → LogsState → LogsState
-opened group s = record (told (span_call s.moment group.name (group_fields group) None) s) {
+opened group s = record (emitted (span_call s.moment group.name (group_fields group) None) s) {
   next = one_more s.next;
   groups = with_span (group_key group) (id_of s.next) s.groups;
   at = Some (id_of s.next);
@@ -85,37 +85,37 @@ located None s = arrived None s
 
 -- ---- lines
 
-abbrev pub event_told : Json → LogsState → LogsState
-event_told value s =
-    told (event_call s.moment (level_in value) (event_fields s.asked value) s.at) s
+abbrev pub event_emitted : Json → LogsState → LogsState
+event_emitted value s =
+    emitted (event_call s.moment (level_in value) (event_fields s.asked value) s.at) s
 
 -- a line happens at its own time
 abbrev pub placed : Json → LogsState → LogsState
 placed value s = record s { moment = moment_in value s.moment }
 
 -- an object is an event at its own time in the span of its group
-abbrev pub object_told : Json → LogsState → LogsState
-object_told value s =
-    event_told value (located (group_in s.asked value) (placed value s))
+abbrev pub object_emitted : Json → LogsState → LogsState
+object_emitted value s =
+    event_emitted value (located (group_in s.asked value) (placed value s))
 
 -- a line that isn't an object is an event where the last object was
-abbrev pub plain_told : List ℕ → LogsState → LogsState
-plain_told line s = if is_skipped line then s else told (plain_event s.moment line s.at) s
+abbrev pub plain_emitted : List ℕ → LogsState → LogsState
+plain_emitted line s = if is_skipped line then s else emitted (plain_event s.moment line s.at) s
 
-abbrev pub line_told : List ℕ → Option Json → LogsState → LogsState
-line_told line None s = plain_told line s
-line_told line (Some value) s =
-    if is_some (as_object value) then object_told value s else plain_told line s
+abbrev pub line_emitted : List ℕ → Option Json → LogsState → LogsState
+line_emitted line None s = plain_emitted line s
+line_emitted line (Some value) s =
+    if is_some (as_object value) then object_emitted value s else plain_emitted line s
 
 abbrev pub handed_out : LogsState → Step LogsState
 handed_out s = record { calls = s.calls; source = record s { calls = [] } }
 
 -- what a line means: each is known
 abbrev pub logs_takes : LogsState → List ℕ → Option Json → Option (Step LogsState)
-logs_takes s line value = Some (handed_out (line_told line value s))
+logs_takes s line value = Some (handed_out (line_emitted line value s))
 
-abbrev pub logs_lacks : Option Json → Lack
-logs_lacks value = Object
+abbrev pub logs_problem : Option Json → Problem
+logs_problem value = Object
 
 -- At the end only the group of the last line closes: the row of any other would be drawn again.
 abbrev pub close_of : Moment → Option Id → List Call

@@ -2,7 +2,7 @@
 
 ghost use Rattle.std.specs.Prelude.{◌≡◌, [], IfOk, OnOk, option_map};
 ghost use Rattle.json.specs.Value.{value_view};
-ghost use Rattle.ttree_logs.specs.Logs.{logs_lacks, arrived, close_of, entered, event_told, group_fields, grouped_by, id_field, line_told, located, no_group, object_told, opened, placed, plain_told, process_fields};
+ghost use Rattle.ttree_logs.specs.Logs.{logs_problem, arrived, close_of, entered, event_emitted, group_fields, grouped_by, id_field, line_emitted, located, no_group, object_emitted, opened, placed, plain_emitted, process_fields};
 ghost use Rattle.ttree_logs.specs.LogLine.{group_in, group_key};
 
 mod fields;
@@ -23,9 +23,9 @@ use tracing_tree_base::text::Text;
 use tracing_tree_layer::call::Call;
 use tracing_tree_lines::lines::is_skipped;
 use tracing_tree_time::Moment;
-use ttree_source::notes::Lack;
+use ttree_source::calls::{close_call, event_call, shown, span_call};
+use ttree_source::notes::Problem;
 use ttree_source::source::Source;
-use ttree_source::told::{close_call, event_call, shown, span_call};
 use ttree_source::traces::plain_event;
 use ttree_source::values::is_object;
 
@@ -98,8 +98,8 @@ impl<'k> Logs<'k> {
     }
 
     // Hands out the calls.
-    fn told(&mut self) -> Vec<Call>
-        ensures told { result.items ≡ self.old.calls }
+    fn take_calls(&mut self) -> Vec<Call>
+        ensures calls { result.items ≡ self.old.calls }
         ensures rest { self.new ≡ record self.old { calls = [] } }
     {
         mem::replace(&mut self.calls, Vec::new(self.alloc))
@@ -108,7 +108,7 @@ impl<'k> Logs<'k> {
     // Takes a line that is this value, if it is JSON.
     fn take_line(&mut self, line: &str, value: Option<&Value<'_>>) -> Result<(), AllocError>
         ensures { OnOk result (self.new
-            ≡ line_told line.now (option_map (λ v. value_view v.now) value.entry) self.old) }
+            ≡ line_emitted line.now (option_map (λ v. value_view v.now) value.entry) self.old) }
     {
         match value {
             Some(value) if is_object(value) => self.take_object(value),
@@ -117,7 +117,7 @@ impl<'k> Logs<'k> {
     }
 
     fn take_object(&mut self, value: &Value<'_>) -> Result<(), AllocError>
-        ensures { OnOk result (self.new ≡ object_told (value_view value.now) self.old) }
+        ensures { OnOk result (self.new ≡ object_emitted (value_view value.now) self.old) }
     {
         self.place(value);
         self.locate(value)?;
@@ -182,7 +182,7 @@ impl<'k> Logs<'k> {
     }
 
     fn push_event(&mut self, value: &Value<'_>) -> Result<(), AllocError>
-        ensures { OnOk result (self.new ≡ event_told (value_view value.now) self.old) }
+        ensures { OnOk result (self.new ≡ event_emitted (value_view value.now) self.old) }
     {
         let fields = event_fields(self.alloc, self.asked, value)?;
         let call = event_call(self.alloc, self.moment, level_in(value), fields, self.at)?;
@@ -191,7 +191,7 @@ impl<'k> Logs<'k> {
 
     // Takes a line that isn't an object. A blank one means nothing.
     fn take_plain(&mut self, line: &str) -> Result<(), AllocError>
-        ensures { OnOk result (self.new ≡ plain_told line.now self.old) }
+        ensures { OnOk result (self.new ≡ plain_emitted line.now self.old) }
     {
         if is_skipped(line.as_bytes()) {
             return Ok(());
@@ -236,7 +236,7 @@ fn id_field(alloc: Global, id: &str) -> Result<Field, AllocError>
 }
 
 impl Source for Logs<'_> {
-    ghost use Rattle.ttree_logs.specs.Logs.{logs_ended, logs_ends, logs_lacks, logs_takes};
+    ghost use Rattle.ttree_logs.specs.Logs.{logs_ended, logs_ends, logs_problem, logs_takes};
 
     ghost takes = { logs_takes };
 
@@ -244,7 +244,7 @@ impl Source for Logs<'_> {
 
     ghost ended = { logs_ended };
 
-    ghost lacks = { logs_lacks };
+    ghost value_problem = { logs_problem };
 
     fn take(
         &mut self,
@@ -253,13 +253,13 @@ impl Source for Logs<'_> {
         value: Option<&Value<'_>>,
     ) -> Result<Option<Vec<Call>>, AllocError> {
         self.take_line(line, value)?;
-        Ok(Some(self.told()))
+        Ok(Some(self.take_calls()))
     }
 
-    fn lack(_value: Option<&Value<'_>>) -> Lack
-        ensures { result ≡ logs_lacks (option_map (λ v. value_view v.now) _value.entry) }
+    fn problem(_value: Option<&Value<'_>>) -> Problem
+        ensures { result ≡ logs_problem (option_map (λ v. value_view v.now) _value.entry) }
     {
-        Lack::Object
+        Problem::Object
     }
 
     fn end(&mut self, alloc: Global) -> Result<Vec<Call>, AllocError> {

@@ -21,17 +21,17 @@ is_within levels None = true
 
 -- a span that hasn't ended isn't known to be short
 abbrev pub is_long : ℕ → ℕ → ℕ → Bool
-is_long least start end = end == 0 || nat_le least (end - start)
+is_long min_level start end = end == 0 || nat_le min_level (end - start)
 
 abbrev pub lasts_as : Shape → ℕ → Row → Bool
-lasts_as (Trace id) least row = false
-lasts_as (Span span) least row = is_long least row.item.time span.end
-lasts_as (Note note) least row = nat_lt row.depth 2
-lasts_as (LeftOut count) least row = false
+lasts_as (Trace id) min_level row = false
+lasts_as (Span span) min_level row = is_long min_level row.item.time span.end
+lasts_as (Note note) min_level row = nat_lt row.depth 2
+lasts_as (LeftOut count) min_level row = false
 
 -- a span that is long enough, or an event or a log that is in no span of the input
 abbrev pub lasts : ℕ → Row → Bool
-lasts least row = lasts_as row.item.shape least row
+lasts min_level row = lasts_as row.item.shape min_level row
 
 abbrev pub is_note : Shape → Bool
 is_note (Trace id) = false
@@ -91,6 +91,6 @@ abbrev pub drawn : Cut → List Row → List Row
 drawn cut [] = []
 drawn cut (row ∷ others) = drawn_with (is_drawn cut row others) row (drawn cut others)
 
--- what a cut leaves of rows in the order in which they are drawn
+-- what a cut leaves of rows in drawing order
 abbrev pub cut_from : Cut → List Row → List Row
 cut_from cut rows = if leaves_out cut then drawn cut rows else rows

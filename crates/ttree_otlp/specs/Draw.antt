@@ -1,4 +1,4 @@
--- Rows in the order in which they are drawn, as calls.
+-- Rows in drawing order, as calls.
 use Rattle.std.specs.Prelude.{ℕ, ◌-◌, ◌==◌, zero, suc, pos, ◌||◌, if◌then◌else◌, List, [], ◌∷◌, ◌++◌, length, Option, Some, None, codes, bytes_eq}
 use Rattle.tracing_tree_base.specs.declared.context.Id.{Id}
 use Rattle.tracing_tree_base.specs.declared.context.Moment.{Moment}
@@ -10,7 +10,7 @@ use Rattle.tracing_tree_layer.specs.declared.call.Call.{Call}
 use Rattle.ttree_source.specs.Counts.{one_more}
 use Rattle.ttree_source.specs.Marks.{is_empty}
 use Rattle.ttree_source.specs.Moments.{moment_at}
-use Rattle.ttree_source.specs.Told.{close_call, event_call, message_field, span_call}
+use Rattle.ttree_source.specs.Calls.{close_call, event_call, message_field, span_call}
 use Rattle.ttree_source.specs.Length.{length_text}
 use Rattle.ttree_otlp.specs.Cut.{sum_of}
 use Rattle.ttree_otlp.specs.Read.{field_of}
@@ -33,8 +33,8 @@ pub record TreeState : Type 0 where
 
 -- ---- what is open
 
-abbrev pub told : Call → TreeState → TreeState
-told call s = record s { calls = s.calls ++ call ∷ [] }
+abbrev pub emitted : Call → TreeState → TreeState
+emitted call s = record s { calls = s.calls ++ call ∷ [] }
 
 -- a row without a time happens when the row before it did
 abbrev pub at_time : ℕ → TreeState → TreeState
@@ -56,7 +56,7 @@ abbrev pub opened : List ℕ → List Field → ℕ → List ℕ → TreeState �
 opened name fields end service s =
     let above = id_on_top s.frames in
     pushed (record { id = id_of s.next; above = above; end = end; service = service; left = 0 })
-    (record (told (span_call s.moment name fields above) s) { next = one_more s.next })
+    (record (emitted (span_call s.moment name fields above) s) { next = one_more s.next })
 
 -- ---- spans that are left out
 
@@ -70,10 +70,10 @@ abbrev pub left_counted : ℕ → TreeState → TreeState
 left_counted count s = left_counted_in s.frames count s
 
 -- how many were left out, if any
-abbrev pub left_told : ℕ → Option Id → TreeState → TreeState
-left_told count above s =
+abbrev pub left_emitted : ℕ → Option Id → TreeState → TreeState
+left_emitted count above s =
     if count == 0 then s
-    else told
+    else emitted
     (event_call s.moment Info
     (message_field (codes "left out") ∷ whole_field (codes "spans") (pos count) ∷ []) above) s
 
@@ -130,7 +130,7 @@ note_fields note service =
 
 abbrev pub note_shown : Note → TreeState → TreeState
 note_shown note s =
-    told (event_call s.moment note.level (note_fields note (service_on_top s.frames))
+    emitted (event_call s.moment note.level (note_fields note (service_on_top s.frames))
     (id_on_top s.frames)) s
 
 abbrev pub row_shown_as : Shape → Item → TreeState → TreeState
@@ -147,8 +147,8 @@ row_shown item s = row_shown_as item.shape item (at_time item.time s)
 -- A span closes at its end. One that hasn't ended, and a trace, close when their last row does.
 abbrev pub closed : Frame → TreeState → TreeState
 closed frame s =
-    let ended = left_told frame.left (Some frame.id) (at_time frame.end s) in
-    told (close_call ended.moment frame.id frame.above) ended
+    let ended = left_emitted frame.left (Some frame.id) (at_time frame.end s) in
+    emitted (close_call ended.moment frame.id frame.above) ended
 
 abbrev pub closed_as : List Frame → TreeState → TreeState
 closed_as [] s = s
@@ -179,7 +179,7 @@ begun_tree next moment =
 
 -- all that is open closes, and what was left out at the root is counted last
 abbrev pub finished : TreeState → TreeState
-finished s = let closed = closed_to 0 s in left_told closed.left None closed
+finished s = let closed = closed_to 0 s in left_emitted closed.left None closed
 
 -- the calls that draw rows
 abbrev pub calls_of_rows : ℕ → Moment → List Row → List Call

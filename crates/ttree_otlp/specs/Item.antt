@@ -6,7 +6,7 @@ use Rattle.tracing_tree_base.specs.declared.field.Field.{Field}
 use Rattle.tracing_tree_base.specs.declared.style.Level.{Level}
 use Rattle.tracing_tree_base.specs.declared.style.Level.TheVariants.{Info, Warn, Error}
 use Rattle.ttree_source.specs.Marks.{is_empty}
-use Rattle.ttree_source.specs.Told.{message_field}
+use Rattle.ttree_source.specs.Calls.{message_field}
 use Rattle.ttree_otlp.specs.AnyValue.{any_text}
 use Rattle.ttree_otlp.specs.Named.{kind_at, level_at}
 use Rattle.ttree_otlp.specs.Read.{attributes_in, count_at, field_of, id_at, string_at}

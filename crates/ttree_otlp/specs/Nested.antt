@@ -1,4 +1,4 @@
--- Rows in the order in which they are drawn, and what is nested in them. The rows in a row are those
+-- Rows in drawing order, and what is nested in them. The rows in a row are those
 -- that follow it, up to the first that isn't deeper.
 use Rattle.std.specs.Prelude.{ℕ, nat_lt, min, Bool, false, ◌&&◌, ◌||◌, if◌then◌else◌, List, [], ◌∷◌}
 use Rattle.ttree_otlp.specs.declared.walk.Row.{Row}

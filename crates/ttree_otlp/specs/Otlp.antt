@@ -9,7 +9,7 @@ use Rattle.tracing_tree_lines.specs.declared.lines.LineCause.{LineCause}
 use Rattle.tracing_tree_lines.specs.declared.lines.LineCause.TheVariants.{Settings as NoSettings, NotACall, Read, Memory, Refused}
 use Rattle.ttree_source.specs.Noted.{Note}
 use Rattle.ttree_source.specs.Source.{Makes, StopsIn}
-use Rattle.ttree_source.specs.declared.notes.Lack.TheVariants.{Object}
+use Rattle.ttree_source.specs.declared.notes.Problem.TheVariants.{Object}
 use Rattle.ttree_source.specs.declared.run.SourceRun.{SourceRun}
 use Rattle.ttree_otlp.specs.Draw.{calls_of_rows}
 use Rattle.ttree_otlp.specs.Gather.{GatheredState, gathered_in, item_cmp, resolved}
@@ -18,7 +18,7 @@ use Rattle.ttree_otlp.specs.Walk.{rows_in_order}
 use Rattle.ttree_otlp.specs.declared.item.Item.{Item}
 use Rattle.ttree_otlp.specs.declared.select.Selection.{Selection}
 
--- rows in the only order in which they are drawn
+-- rows in the only drawing order
 abbrev pub IsInOrder : List Item → List Item → Type 0
 IsInOrder rows ordered = IsPermutation rows ordered × IsSorted item_cmp ordered
 

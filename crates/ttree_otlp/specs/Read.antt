@@ -8,7 +8,7 @@ use Rattle.json.specs.Json.{Json, null, boolean, number, string, array, object, 
 use Rattle.json.specs.Find.{get}
 use Rattle.tracing_tree_base.specs.declared.field.Field.{Field}
 use Rattle.ttree_source.specs.Marks.{is_empty}
-use Rattle.ttree_source.specs.Told.{message_field, shown}
+use Rattle.ttree_source.specs.Calls.{message_field, shown}
 use Rattle.ttree_source.specs.Values.{array_at, text_at}
 use Rattle.ttree_otlp.specs.AnyValue.{any_text}
 

@@ -13,7 +13,7 @@ use Rattle.ttree_otlp.specs.declared.select.Selection.{Selection}
 use Rattle.ttree_otlp.specs.declared.walk.Row.{Row}
 
 abbrev pub everything : Selection
-everything = record { service = None; trace = []; least = None; is_failed = false; cut = no_cut }
+everything = record { service = None; trace = []; min_level = None; is_failed = false; cut = no_cut }
 
 -- ---- what is selected
 
@@ -30,7 +30,7 @@ fits selection trace service =
     is_of_trace selection.trace trace && is_of_service selection.service service
 
 abbrev pub is_at_least : Option Level → Level → Bool
-is_at_least (Some least) level = nat_le (rank least) (rank level)
+is_at_least (Some min_level) level = nat_le (rank min_level) (rank level)
 is_at_least None level = true
 
 abbrev pub is_error : Level → Bool
@@ -42,7 +42,7 @@ is_error Warn = false
 
 abbrev pub note_fits : Selection → List ℕ → Note → Bool
 note_fits selection trace note =
-    fits selection trace note.service && is_at_least selection.least note.level
+    fits selection trace note.service && is_at_least selection.min_level note.level
 
 -- under --failed only errors are selected
 abbrev pub note_is_selected : Selection → List ℕ → Note → Bool
@@ -51,7 +51,7 @@ note_is_selected selection trace note =
 
 -- by a level, and under --failed, only events and logs are selected
 abbrev pub selects_events : Selection → Bool
-selects_events selection = selection.is_failed || is_some selection.least
+selects_events selection = selection.is_failed || is_some selection.min_level
 
 abbrev pub is_selected_as : Shape → Selection → List ℕ → Bool
 is_selected_as (Trace id) selection trace = false
@@ -95,7 +95,7 @@ selected_of selection [] = []
 selected_of selection (row ∷ others) =
     kept_with (is_with_selected selection row others) row (selected_of selection others)
 
--- what is shown of rows in the order in which they are drawn: of the selected rows, those that
+-- what is shown of rows in drawing order: of the selected rows, those that
 -- --min and --depth don't leave out
 abbrev pub shown : Selection → List Row → List Row
 shown selection rows = cut_from selection.cut (selected_of selection rows)

@@ -1,4 +1,4 @@
--- The rows of an input nested by their ids, in the order in which they are drawn.
+-- The rows of an input nested by their ids, in drawing order.
 use Rattle.std.specs.Prelude.{ℕ, ◌-◌, ◌*◌, ◌^◌, nat_lt, zero, suc, min, Bool, true, false, if◌then◌else◌, List, [], ◌∷◌, ◌++◌, length, Option, Some, None, unwrap_or}
 use Rattle.ttree_otlp.specs.Keyed.{after_first, first_kept, head_of, kept_at, key_of, tail_of, time_of, trace_of, with_kept, without_kept}
 use Rattle.ttree_otlp.specs.declared.item.Item.{Item}
@@ -131,7 +131,7 @@ begun_walk groups = record {
   rows = [];
 }
 
--- rows, sorted by their places, in the order in which they are drawn
+-- rows, sorted by their places, in drawing order
 abbrev pub rows_in_order : List Item → List Row
 rows_in_order items =
     (stepped_times (step_count (length items)) (begun_walk (grouped items))).rows

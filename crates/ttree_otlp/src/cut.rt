@@ -37,19 +37,19 @@ fn is_within(levels: usize, depth: Option<usize>) -> bool
 }
 
 // Returns whether a span took at least this long. One that hasn't ended isn't known to be short.
-fn is_long(least: u64, start: u64, end: u64) -> bool
-    ensures { result ≡ is_long least start end }
+fn is_long(min_level: u64, start: u64, end: u64) -> bool
+    ensures { result ≡ is_long min_level start end }
 {
-    end == 0 || end.saturating_sub(start) >= least
+    end == 0 || end.saturating_sub(start) >= min_level
 }
 
 // Returns whether a row is a span that is long enough, or an event or a log in no span of the input.
-fn lasts(least: u64, row: &Row) -> bool
-    ensures { result ≡ lasts least row.now }
+fn lasts(min_level: u64, row: &Row) -> bool
+    ensures { result ≡ lasts min_level row.now }
 {
     match &row.item.shape {
         Shape::Trace(_) | Shape::LeftOut(_) => false,
-        Shape::Span(span) => is_long(least, row.item.time, span.end),
+        Shape::Span(span) => is_long(min_level, row.item.time, span.end),
         Shape::Note(_) => row.depth < 2,
     }
 }

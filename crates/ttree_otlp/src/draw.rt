@@ -1,7 +1,7 @@
-//! Rows in the order in which they are drawn, as calls.
+//! Rows in drawing order, as calls.
 
 ghost use Rattle.std.specs.Prelude.{◌≡◌, ◌∷◌, ◌++◌, [], ◌-◌, IfOk, OnOk, Some, length, pos};
-ghost use Rattle.ttree_otlp.specs.Draw.{at_time, begun_tree, calls_of_rows, closed, closed_one, closed_times, closed_to, field_if, finished, id_on_top, kind_text, left_counted, left_told, note_fields, note_shown, opened, parent_fields, row_drawn, row_shown, rows_drawn, service_fields, service_on_top, span_fields, span_shown, time_field, time_fields, trace_shown};
+ghost use Rattle.ttree_otlp.specs.Draw.{at_time, begun_tree, calls_of_rows, closed, closed_one, closed_times, closed_to, field_if, finished, id_on_top, kind_text, left_counted, left_emitted, note_fields, note_shown, opened, parent_fields, row_drawn, row_shown, rows_drawn, service_fields, service_on_top, span_fields, span_shown, time_field, time_fields, trace_shown};
 ghost use Rattle.ttree_source.specs.Moments.{moment_at};
 
 use crate::cut::sum_of;
@@ -18,8 +18,8 @@ use tracing_tree_base::style::Level;
 use tracing_tree_base::text::Text;
 use tracing_tree_layer::call::Call;
 use tracing_tree_time::Moment;
+use ttree_source::calls::{close_call, event_call, message_field, span_call};
 use ttree_source::length::length_text;
-use ttree_source::told::{close_call, event_call, message_field, span_call};
 
 // An open span.
 #[derive(Drop)]
@@ -112,7 +112,7 @@ impl Tree {
         ensures { OnOk result (self.new ≡ finished self.old) }
     {
         self.close_to(0)?;
-        self.tell_left(self.left, None)
+        self.emit_left(self.left, None)
     }
 
     // Closes the spans that a row isn't nested in, and shows the row.
@@ -154,7 +154,7 @@ impl Tree {
         ensures { OnOk result (self.new ≡ closed frame self.old) }
     {
         self.go_to(frame.end);
-        self.tell_left(frame.left, Some(frame.id))?;
+        self.emit_left(frame.left, Some(frame.id))?;
         Ok(
             self.calls
                 .push(close_call(self.moment, frame.id, frame.above))?,
@@ -162,8 +162,8 @@ impl Tree {
     }
 
     // Records how many spans were left out, if any.
-    fn tell_left(&mut self, count: u64, above: Option<Id>) -> Result<(), AllocError>
-        ensures { OnOk result (self.new ≡ left_told count above self.old) }
+    fn emit_left(&mut self, count: u64, above: Option<Id>) -> Result<(), AllocError>
+        ensures { OnOk result (self.new ≡ left_emitted count above self.old) }
     {
         if count == 0 {
             return Ok(());

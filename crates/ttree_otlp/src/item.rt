@@ -13,7 +13,7 @@ use std::alloc::{AllocError, Global};
 use tracing_tree_base::field::Fields;
 use tracing_tree_base::style::Level;
 use tracing_tree_base::text::Text;
-use ttree_source::told::message_field;
+use ttree_source::calls::message_field;
 
 // An event or a log.
 #[derive(Drop)]

@@ -133,7 +133,7 @@ impl Group {
     }
 }
 
-// Rows in the order in which they are drawn, the first first.
+// Rows in drawing order, the first first.
 #[derive(Drop)]
 pub(crate) struct Rows {
     // The first one last.

@@ -16,7 +16,7 @@ use tracing_tree_layer::layered::Layered;
 use tracing_tree_lines::lines::{LineCause, LineFault};
 use tracing_tree_output::Output;
 use tracing_tree_time::{FormatTime, Moment};
-use ttree_source::notes::{Lack, Notes};
+use ttree_source::notes::{Notes, Problem};
 use ttree_source::run::{SourceRun, draw_calls, skip};
 
 /// Draws traces and logs in OTLP/JSON: one object, which may have several lines, or one object in
@@ -143,7 +143,7 @@ fn note_all<N: Notes>(problems: &[u64], notes: &mut N) -> Result<(), LineCause>
         problems.now)) }
 {
     for line in problems {
-        skip(notes, *line, Ok(Lack::Object), &[])?;
+        skip(notes, *line, Ok(Problem::Object), &[])?;
     }
     Ok(())
 }

@@ -11,7 +11,7 @@ use json::Value;
 use std::alloc::{AllocError, Global};
 use tracing_tree_base::field::{Field, Fields};
 use tracing_tree_base::text::Text;
-use ttree_source::told::{message_field, shown};
+use ttree_source::calls::{message_field, shown};
 use ttree_source::values::{array_at, text_at};
 
 // Returns a number as written, which may be in a string.

@@ -27,7 +27,7 @@ pub struct Selection {
 
     /// Only events and logs of this level and above are selected, and no spans. `None` selects
     /// those of all levels, and spans.
-    pub least: Option<Level>,
+    pub min_level: Option<Level>,
 
     /// Only errors are selected: events and logs of the level ERROR, and failures. Other events
     /// and logs are shown if their span is.
@@ -50,7 +50,7 @@ impl Selection {
         Ok(Selection {
             service: None,
             trace: Text::from_str(alloc, "")?,
-            least: None,
+            min_level: None,
             is_failed: false,
             cut: no_cut(),
         })
@@ -78,11 +78,11 @@ fn fits(selection: &Selection, trace: &str, service: &str) -> bool
     is_of_trace(selection.trace.as_str(), trace) && is_of_service(&selection.service, service)
 }
 
-fn is_at_least(least: Option<Level>, level: Level) -> bool
-    ensures { result ≡ is_at_least least level }
+fn is_at_least(min_level: Option<Level>, level: Level) -> bool
+    ensures { result ≡ is_at_least min_level level }
 {
-    match least {
-        Some(least) => rank(least) <= rank(level),
+    match min_level {
+        Some(min_level) => rank(min_level) <= rank(level),
         None => true,
     }
 }
@@ -99,7 +99,7 @@ fn is_error(level: Level) -> bool
 fn note_fits(selection: &Selection, trace: &str, note: &Note) -> bool
     ensures { result ≡ note_fits selection.now trace.now note.now }
 {
-    fits(selection, trace, note.service.as_str()) && is_at_least(selection.least, note.level)
+    fits(selection, trace, note.service.as_str()) && is_at_least(selection.min_level, note.level)
 }
 
 fn note_is_selected(selection: &Selection, trace: &str, note: &Note) -> bool
@@ -111,7 +111,7 @@ fn note_is_selected(selection: &Selection, trace: &str, note: &Note) -> bool
 fn selects_events(selection: &Selection) -> bool
     ensures { result ≡ selects_events selection.now }
 {
-    selection.is_failed || selection.least.is_some()
+    selection.is_failed || selection.min_level.is_some()
 }
 
 fn is_selected(selection: &Selection, row: &Row) -> bool

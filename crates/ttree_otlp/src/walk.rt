@@ -1,4 +1,4 @@
-//! The rows of an input nested by their ids, in the order in which they are drawn.
+//! The rows of an input nested by their ids, in drawing order.
 
 ghost use Rattle.std.specs.Prelude.{◌≡◌, ◌∷◌, IfOk, OnOk, option_map};
 ghost use Rattle.ttree_otlp.specs.Keyed.{key_of};
@@ -41,7 +41,7 @@ impl Model for Walk {
     } };
 }
 
-// Returns rows, sorted by their places, in the order in which they are drawn.
+// Returns rows, sorted by their places, in drawing order.
 pub(crate) fn rows_in_order(alloc: Global, items: Vec<Item>) -> Result<Vec<Row>, AllocError>
     ensures { IfOk result (λ rows. rows.items ≡ rows_in_order items.items) }
 {

@@ -58,15 +58,15 @@ run_keeps_form (call ∷ calls) (answer ∷ answers) old new (between, one, othe
 
 -- Begin, calls and end make a page.
 page_ended : (tail : List ℕ) (old new : SeenSteps) → Writes {A = Unit {0}} (line_of old.form End ++ tail) (Ok tt) old.writer new.writer → EndsPage {A = Unit {0}} tail (Ok tt) old new
-page_ended tail old new h head title calls answers fresh begun first told held =
+page_ended tail old new h head title calls answers fresh begun first emitted held =
     let form = fresh.form in
-    let same : old.form ≡ form = run_keeps_form calls answers begun old told ∙ first.form in
+    let same : old.form ≡ form = run_keeps_form calls answers begun old emitted ∙ first.form in
     let steps = accepted_steps begun.forest calls answers in
     let last = subst (λ (form : LineForm). Writes {A = Unit {0}} (line_of form End ++ tail) (Ok tt) old.writer new.writer) same h in
     subst (λ (forest : Forest). Appends fresh.writer.bytes new.writer.bytes (page form head title (accepted_steps forest calls answers) tail)) first.forest
     (Appends-trans fresh.writer.bytes old.writer.bytes new.writer.bytes ((head ++ line_of form (About title)) ++ lines_of form steps) (line_of form End ++ tail)
     (Appends-trans fresh.writer.bytes begun.writer.bytes old.writer.bytes (head ++ line_of form (About title)) (lines_of form steps) first.written.0
-    (run_is_written form calls answers begun old first.form held told)) last.0)
+    (run_is_written form calls answers begun old first.form held emitted)) last.0)
 
 pub ends_page : (tail : List ℕ) (answer : Result (Unit {0}) Refusal) (old new : SeenSteps) → WritesBytes (line_of old.form End ++ tail) answer old new → EndsPage tail answer old new
 ends_page tail (Err refusal) old new h = tt

@@ -20,7 +20,7 @@ use std::marker::Model;
 use tracing_tree_base::{Context, Id, Refusal};
 use tracing_tree_layer::call::{Call, Reply};
 use tracing_tree_layer::calls::Calls;
-use tracing_tree_layer::told::ToldEvent;
+use tracing_tree_layer::parts::EventParts;
 use tracing_tree_output::{Output, write_whole};
 use tracing_tree_spans::registry::{Attributes, Event, LookupSpan, Record, Registry};
 
@@ -222,7 +222,7 @@ impl<W: Output> Calls for StepWriter<W> {
         send(&mut self.text, &mut self.writer)
     }
 
-    fn event<E: ToldEvent>(&mut self, event: &E, context: &Context) -> Result<(), Refusal> {
+    fn event<E: EventParts>(&mut self, event: &E, context: &Context) -> Result<(), Refusal> {
         if self.writer.faults() > 0 {
             return Err(Refusal::Failed);
         }

@@ -82,7 +82,7 @@ abbrev pub is_name : List ℕ → Bool
 is_name [] = false
 is_name (byte ∷ rest) = nat_lt 32 byte
 
--- a lowercase letter, a digit, `-` or `.` (45, 46), of which Kubernetes makes names
+-- a lowercase letter, a digit, `-` or `.` (45, 46): a character of Kubernetes names
 abbrev pub is_of_name : ℕ → Bool
 is_of_name byte =
     is_digit byte || (nat_le 97 byte && nat_le byte 122) || (byte == 45) || (byte == 46)

@@ -6,7 +6,7 @@ use Rattle.tracing_tree_base.specs.declared.field.Field.{Field}
 use Rattle.tracing_tree_layer.specs.declared.call.Call.{Call}
 use Rattle.tracing_tree_layer.specs.declared.call.Call.TheVariants.{New, Clone, Record, Event, Close}
 use Rattle.ttree_source.specs.Source.{Step}
-use Rattle.ttree_source.specs.Told.{shown}
+use Rattle.ttree_source.specs.Calls.{shown}
 use Rattle.ttree_prefix.specs.Mark.{split}
 use Rattle.ttree_prefix.specs.Streams.{calls_in, last_span, names_stream, span_in, with_span}
 use Rattle.ttree_prefix.specs.declared.mark.Mark.{Mark}

@@ -1,4 +1,4 @@
--- The streams of lines: the lines with one prefix are a stream of their own.
+-- The streams of lines: the lines with one prefix are a separate stream.
 use Rattle.std.specs.Prelude.{ℕ, Bool, true, false, if◌then◌else◌, List, [], ◌∷◌, ◌++◌, map, position, remove, Option, Some, None, bytes_eq}
 use Rattle.tracing_tree_base.specs.declared.context.Id.{Id}
 use Rattle.tracing_tree_layer.specs.declared.call.Call.{Call}
@@ -48,7 +48,7 @@ has_last prefix (stream ∷ streams) = of streams (has_last prefix streams) wher
   of [] later = is_of prefix stream
   of (next ∷ others) later = later
 
--- the span of the last event among calls, or else this one
+-- the span of the last event among calls, otherwise this one
 abbrev pub last_span : Option Id → List Call → Option Id
 last_span before [] = before
 last_span before (New attributes context ∷ calls) = last_span before calls

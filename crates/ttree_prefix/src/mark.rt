@@ -239,7 +239,7 @@ fn is_digit(byte: u8) -> bool
     matches!(byte, b'0'..=b'9')
 }
 
-// Returns whether a name is there: it begins with neither a blank nor a tab.
+// Returns whether a name is there: it begins with a character other than a blank or a tab.
 fn is_name(text: &[u8]) -> bool
     ensures { result ≡ is_name text.now }
 {

@@ -3,7 +3,7 @@
 ghost use Rattle.std.specs.Prelude.{◌≡◌, [], IfOk, OnOk, map, option_map};
 ghost use Rattle.json.specs.Json.{document};
 ghost use Rattle.json.specs.Value.{value_view};
-ghost use Rattle.ttree_source.specs.Source.{Tells};
+ghost use Rattle.ttree_source.specs.Source.{Emits};
 ghost use Rattle.ttree_prefix.specs.Prefix.{calls_of_line, has_streams, is_object, parts_of, prefix_field, prefixed_step, streams_after, value_taken, with_prefix};
 
 use crate::mark::Mark;
@@ -14,9 +14,9 @@ use std::marker::Model;
 use tracing_tree_base::field::{Field, Fields};
 use tracing_tree_base::text::Text;
 use tracing_tree_layer::call::Call;
-use ttree_source::notes::Lack;
+use ttree_source::calls::shown;
+use ttree_source::notes::Problem;
 use ttree_source::source::Source;
-use ttree_source::told::shown;
 use ttree_source::values::{is_object, value_of};
 
 /// A source whose lines may start with a prefix.
@@ -70,9 +70,9 @@ impl<S: Source> Prefixed<S> {
         prefix: &str,
         rest: &str,
     ) -> Result<Option<Vec<Call>>, AllocError>
-        ensures { IfOk result (λ told. Tells
+        ensures { IfOk result (λ emitted. Emits
             (value_taken S.takes prefix.now rest.now (document rest.now) self.old)
-            self.old self.new (option_map (λ calls. calls.items) told)) }
+            self.old self.new (option_map (λ calls. calls.items) emitted)) }
     {
         let mut scratch = Scratch::new(alloc);
         let value = value_of(alloc, rest, &mut scratch)?;
@@ -87,10 +87,10 @@ impl<S: Source> Prefixed<S> {
         rest: &str,
         value: Option<&Value<'_>>,
     ) -> Result<Option<Vec<Call>>, AllocError>
-        ensures { IfOk result (λ told. Tells
+        ensures { IfOk result (λ emitted. Emits
             (value_taken S.takes prefix.now rest.now
             (option_map (λ v. value_view v.now) value.entry) self.old)
-            self.old self.new (option_map (λ calls. calls.items) told)) }
+            self.old self.new (option_map (λ calls. calls.items) emitted)) }
     {
         let Some(calls) = self.source.take(alloc, rest, value)? else {
             return Ok(None);
@@ -169,7 +169,7 @@ impl<S: Source> Source for Prefixed<S> {
 
     ghost ended = { prefixed_ended S.ended };
 
-    ghost lacks = { S.lacks };
+    ghost value_problem = { S.value_problem };
 
     fn reads_values(&self) -> bool {
         self.mark.is_some() || self.source.reads_values()
@@ -187,8 +187,8 @@ impl<S: Source> Source for Prefixed<S> {
         self.take_rest(alloc, prefix, rest)
     }
 
-    fn lack(value: Option<&Value<'_>>) -> Lack {
-        S::lack(value)
+    fn problem(value: Option<&Value<'_>>) -> Problem {
+        S::problem(value)
     }
 
     fn end(&mut self, alloc: Global) -> Result<Vec<Call>, AllocError> {

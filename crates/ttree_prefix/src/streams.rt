@@ -1,4 +1,4 @@
-//! The streams of lines: the lines with one prefix are a stream of their own.
+//! The streams of lines: the lines with one prefix are a separate stream.
 
 ghost use Rattle.std.specs.Prelude.{◌≡◌, ◌++◌, ◌∷◌, [], IfOk, OnOk, map, position};
 ghost use Rattle.ttree_prefix.specs.Streams.{calls_in, has_last, is_of, last_span, placed_in, span_in, with_span, without};
@@ -132,7 +132,7 @@ fn has_last(streams: &[Stream], prefix: &str) -> bool
     false
 }
 
-// Returns the span of the last event among these calls, or else this one.
+// Returns the span of the last event among these calls, otherwise this one.
 fn last_span(before: Option<Id>, calls: &[Call]) -> Option<Id>
     ensures { result ≡ last_span before calls.now }
 {

@@ -7,11 +7,11 @@ use Rattle.tracing_tree_lines.specs.Lines.Spelled.{input_lines}
 use Rattle.tracing_tree_lines.specs.declared.lines.LineCause.{LineCause}
 use Rattle.tracing_tree_lines.specs.declared.lines.LineCause.TheVariants.{Settings as NoSettings, NotACall, Read, Memory, Refused}
 use Rattle.tracing_tree_lines.specs.declared.lines.LineFault.{LineFault}
-use Rattle.ttree_source.specs.Source.{Accepts, Breaks, EndsAt, FlushedTimes, RunsSource, Step, StopsIn, calls_of, hear, source_after}
+use Rattle.ttree_source.specs.Source.{Accepts, Breaks, EndsAt, FlushedTimes, RunsSource, Step, StopsIn, calls_of, interpret, source_after}
 use Rattle.ttree_source.specs.Tallies.{CountsCalls, IsCounted, counted, counted_all, nothing_counted}
 use Rattle.ttree_source.specs.declared.run.SourceRun.{SourceRun}
 use Rattle.ttree_source.specs.declared.tally.Tally.{Tally}
-use Rattle.ttree_source.proofs.Heard.{beginning}
+use Rattle.ttree_source.proofs.Interpreted.{beginning}
 
 abbrev still : Tally → Tally → Type 0
 still old new = new ≡ old
@@ -36,7 +36,7 @@ breaks_same (Refused refusal) (call ∷ rest) old new h = h.0
 module _ {S : Type 0} (takes : S → List ℕ → Option Json → Option (Step S)) (ends : S → List Call) (ended : S → S) where
   counts_by : (lines : List (List ℕ)) (source after : S) (run : SourceRun) (fault : Option LineFault) (new : Tally) →
       MatchOption fault
-      (Accepts IsCounted still (calls_of takes ends source lines) nothing_counted new × (run.unknown ≡ (hear takes source lines).unknown) × (after ≡ source_after takes ended source lines))
+      (Accepts IsCounted still (calls_of takes ends source lines) nothing_counted new × (run.unknown ≡ (interpret takes source lines).unknown) × (after ≡ source_after takes ended source lines))
       (λ fault. EndsAt (Accepts IsCounted still) IsCounted takes ends lines source run fault nothing_counted new) →
       CountsCalls fault (calls_of takes ends source lines) new
   counts_by lines source after run None new (h, counted, left) = accepts_counts (calls_of takes ends source lines) nothing_counted new h

@@ -16,7 +16,7 @@ use Rattle.tracing_tree_lines.specs.Lines.Spelled.{input_lines}
 use Rattle.tracing_tree_lines.specs.declared.lines.LineCause.{LineCause}
 use Rattle.tracing_tree_lines.specs.declared.lines.LineCause.TheVariants.{Settings as NoSettings, NotACall, Read, Memory, Refused}
 use Rattle.tracing_tree_lines.specs.declared.lines.LineFault.{LineFault}
-use Rattle.ttree_source.specs.Source.{Accepts, Breaks, EndsAt, FlushedTimes, Makes, MakesEach, MakesSome, RunsSource, Step, StopsIn, calls_of, hear, source_after}
+use Rattle.ttree_source.specs.Source.{Accepts, Breaks, EndsAt, FlushedTimes, Makes, MakesEach, MakesSome, RunsSource, Step, StopsIn, calls_of, interpret, source_after}
 use Rattle.ttree_source.specs.declared.run.SourceRun.{SourceRun}
 use Rattle.ttree_source.proofs.Made.{makes_flushed, makes_none, makes_one, makes_then}
 
@@ -89,17 +89,17 @@ module _ {W FT : Type 0} (time : FormatTime FT) (output : Output W) where
     ends_draws : (lines : List (List ℕ)) (source : S) (run : SourceRun) (fault : LineFault) (old new : LayeredView W FT) → EndsAt Made on_layer takes ends lines source run fault old new →
         Changes see (EndsAt Makes IsAnswered takes ends lines source run fault) old new
     ends_draws lines source run fault old new h =
-        change_then see {First = Makes (hear takes source h.before).calls} {Second = StopsIn Makes IsAnswered _ fault.cause}
+        change_then see {First = Makes (interpret takes source h.before).calls} {Second = StopsIn Makes IsAnswered _ fault.cause}
         {Both = EndsAt Makes IsAnswered takes ends lines source run fault}
         (λ a b c m k. record { before = h.before; others = h.others; split = h.split; number = h.number; between = b; makes = m; stops = k; counts = h.counts })
         old h.between new (made_draws _ old h.between h.makes) (stops_draws _ fault.cause h.between new h.stops)
 
     lines_draw : (fault : Option LineFault) (lines : List (List ℕ)) (source after : S) (run : SourceRun) (old new : LayeredView W FT) →
         MatchOption fault
-        (Made (calls_of takes ends source lines) old new × (run.unknown ≡ (hear takes source lines).unknown) × (after ≡ source_after takes ended source lines))
+        (Made (calls_of takes ends source lines) old new × (run.unknown ≡ (interpret takes source lines).unknown) × (after ≡ source_after takes ended source lines))
         (λ fault. EndsAt Made on_layer takes ends lines source run fault old new) →
         Changes see (λ a b. MatchOption fault
-        (Makes (calls_of takes ends source lines) a b × (run.unknown ≡ (hear takes source lines).unknown) × (after ≡ source_after takes ended source lines))
+        (Makes (calls_of takes ends source lines) a b × (run.unknown ≡ (interpret takes source lines).unknown) × (after ≡ source_after takes ended source lines))
         (λ fault. EndsAt Makes IsAnswered takes ends lines source run fault a b)) old new
     lines_draw None lines source after run old new (h, counted, left) =
         let made = made_draws _ old new h in

@@ -40,9 +40,9 @@ of_error (Ok done) cause is h = cc
 of_error (Err other) cause is h = cc
 
 -- the notes end it after an unknown line, or memory for a note runs out
-pub ends_noted : {L E : Type 0} (lack : Result L E) (result : Result ⊤ LineCause) (cause : LineCause) (unknown : ℕ) →
-    MatchResult lack (λ _. IfErr result (λ cause. cause ≡ NotACall)) (λ _. result ≡ Err Memory) → result ≡ Err cause → MayEnd cause (unknown + 1)
-ends_noted (Ok lack) result cause unknown h is = noted cause unknown (subst (λ r. IfErr r (λ cause. cause ≡ NotACall)) is h)
+pub ends_noted : {L E : Type 0} (problem : Result L E) (result : Result ⊤ LineCause) (cause : LineCause) (unknown : ℕ) →
+    MatchResult problem (λ _. IfErr result (λ cause. cause ≡ NotACall)) (λ _. result ≡ Err Memory) → result ≡ Err cause → MayEnd cause (unknown + 1)
+ends_noted (Ok problem) result cause unknown h is = noted cause unknown (subst (λ r. IfErr r (λ cause. cause ≡ NotACall)) is h)
 ends_noted (Err e) result cause unknown h is = refused cause (unknown + 1) (of_error result cause is h)
 
 -- the notes end a run for this cause, or memory for a note runs out
@@ -67,7 +67,7 @@ by_memory NoSettings e = cc
 by_memory Read e = cc
 by_memory (Refused refusal) e = cc
 
-pub of_notes : {L E : Type 0} (lack : Result L E) (result : Result ⊤ LineCause) (cause : LineCause) →
-    MatchResult lack (λ _. IfErr result (λ cause. cause ≡ NotACall)) (λ _. result ≡ Err Memory) → result ≡ Err cause → IsOfNotes cause
-of_notes (Ok lack) result cause h is = by_notes cause (subst (λ r. IfErr r (λ cause. cause ≡ NotACall)) is h)
+pub of_notes : {L E : Type 0} (problem : Result L E) (result : Result ⊤ LineCause) (cause : LineCause) →
+    MatchResult problem (λ _. IfErr result (λ cause. cause ≡ NotACall)) (λ _. result ≡ Err Memory) → result ≡ Err cause → IsOfNotes cause
+of_notes (Ok problem) result cause h is = by_notes cause (subst (λ r. IfErr r (λ cause. cause ≡ NotACall)) is h)
 of_notes (Err e) result cause h is = by_memory cause (of_error result cause is h)

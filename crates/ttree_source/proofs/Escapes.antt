@@ -8,7 +8,7 @@ use Rattle.std.proofs.Math.Utf8.{encodes}
 use Rattle.std.proofs.lemmas.Bool.{true≢false}
 use Rattle.std.proofs.lemmas.List.Folds.{list_any-append}
 use Rattle.std.proofs.lemmas.Str.{encodes-chars}
-use Rattle.ttree_source.specs.Told.{is_escaped, is_unprintable, shown, shown_char}
+use Rattle.ttree_source.specs.Calls.{is_escaped, is_unprintable, shown, shown_char}
 
 each_as_it_is : (cs : List ℕ) → list_any is_escaped cs ≡ false → flat_map shown_char cs ≡ encodes cs
 each_as_it_is [] none = refl

@@ -2,7 +2,7 @@ pub mod Accepted
 pub mod Made
 pub mod Drawn
 pub mod Noted
-pub mod Heard
+pub mod Interpreted
 pub mod Counted
 pub mod Ended
 pub mod Escapes

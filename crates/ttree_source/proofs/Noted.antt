@@ -5,8 +5,8 @@ use Rattle.json.specs.Json.{Json}
 use Rattle.tracing_tree_lines.specs.declared.lines.LineCause.{LineCause}
 use Rattle.tracing_tree_lines.specs.declared.lines.LineCause.TheVariants.{Settings as NoSettings, NotACall, Read, Memory, Refused}
 use Rattle.ttree_source.specs.Noted.{AddsNotes, Note, note_if}
-use Rattle.ttree_source.specs.Source.{Heard, MayEnd, Step, hear, hear_line, note_of, noted_at, notes_of}
-use Rattle.ttree_source.specs.declared.notes.Lack.{Lack}
+use Rattle.ttree_source.specs.Source.{Interpreted, MayEnd, Step, interpret, interpret_line, note_of, noted_at, notes_of}
+use Rattle.ttree_source.specs.declared.notes.Problem.{Problem}
 use Rattle.ttree_source.proofs.Ended.{of_error}
 
 pub adds_none : (old : Option (List Note)) → AddsNotes [] old old
@@ -33,24 +33,24 @@ pub take_all : {A : Type 0} (xs ys : List A) → take (length xs) (xs ++ ys) ≡
 take_all [] ys = refl
 take_all (x ∷ xs) ys = ap (λ zs. x ∷ zs) (take_all xs ys)
 
-module _ {S : Type 0} (takes : S → List ℕ → Option Json → Option (Step S)) (lacks : Option Json → Lack) where
+module _ {S : Type 0} (takes : S → List ℕ → Option Json → Option (Step S)) (value_problem : Option Json → Problem) where
   -- the notes of one line more
   pub notes_more : (number : ℕ) (source : S) (lines : List (List ℕ)) (line : List ℕ) →
-      notes_of takes lacks number source (lines ++ line ∷ [])
-      ≡ notes_of takes lacks number source lines
-      ++ note_of lacks (number + length lines) line (hear_line takes (hear takes source lines).source line).unknown
+      notes_of takes value_problem number source (lines ++ line ∷ [])
+      ≡ notes_of takes value_problem number source lines
+      ++ note_of value_problem (number + length lines) line (interpret_line takes (interpret takes source lines).source line).unknown
   notes_more number source [] line =
-      let one : ℕ → List Note = λ n. note_of lacks n line (hear_line takes source line).unknown in
+      let one : ℕ → List Note = λ n. note_of value_problem n line (interpret_line takes source line).unknown in
       append-nil (one number) ∙ ap one (omega arith)
   notes_more number source (first ∷ others) line =
-      let heard : Heard S = hear_line takes source first in
-      let here : List Note = note_of lacks number first heard.unknown in
-      let last : List Note = note_of lacks (number + 1 + length others) line (hear_line takes (hear takes heard.source others).source line).unknown in
-      let one : ℕ → List Note = λ n. note_of lacks n line (hear_line takes (hear takes heard.source others).source line).unknown in
+      let interpreted : Interpreted S = interpret_line takes source first in
+      let here : List Note = note_of value_problem number first interpreted.unknown in
+      let last : List Note = note_of value_problem (number + 1 + length others) line (interpret_line takes (interpret takes interpreted.source others).source line).unknown in
+      let one : ℕ → List Note = λ n. note_of value_problem n line (interpret_line takes (interpret takes interpreted.source others).source line).unknown in
       let place : number + 1 + length others ≡ number + length (first ∷ others) = omega arith in
-      ap (λ notes. here ++ notes) (notes_more (number + 1) heard.source others line)
-      ∙ sym (append_assoc here (notes_of takes lacks (number + 1) heard.source others) last)
-      ∙ ap (λ n. (here ++ notes_of takes lacks (number + 1) heard.source others) ++ one n) place
+      ap (λ notes. here ++ notes) (notes_more (number + 1) interpreted.source others line)
+      ∙ sym (append_assoc here (notes_of takes value_problem (number + 1) interpreted.source others) last)
+      ∙ ap (λ n. (here ++ notes_of takes value_problem (number + 1) interpreted.source others) ++ one n) place
 
 pub take_first : {A : Type 0} (xs : List A) (y : A) (ys : List A) → take (length xs + 1) (xs ++ y ∷ ys) ≡ xs ++ y ∷ []
 take_first [] y ys = refl
@@ -58,19 +58,19 @@ take_first (x ∷ xs) y ys =
     let count : length (x ∷ xs) + 1 ≡ suc (length xs + 1) = omega arith in
     ap (λ n. take n (x ∷ (xs ++ y ∷ ys))) count ∙ ap (λ zs. x ∷ zs) (take_first xs y ys)
 
-module _ {E : Type 0} (number : ℕ) (wanted : Lack) where
+module _ {E : Type 0} (number : ℕ) (wanted : Problem) where
   -- the run continues after a note
-  pub note_made : (lack : Result Lack E) (result : Result ⊤ LineCause) (done : ⊤) →
-      MatchResult lack (λ _. IfErr result (λ cause. cause ≡ NotACall)) (λ _. result ≡ Err Memory) → result ≡ Ok done →
-      IfOk lack (λ lack. lack ≡ wanted) → note_if number lack ≡ (number, wanted) ∷ []
-  note_made (Ok lack) result done h is e = ap (λ l. (number, l) ∷ []) e
+  pub note_made : (problem : Result Problem E) (result : Result ⊤ LineCause) (done : ⊤) →
+      MatchResult problem (λ _. IfErr result (λ cause. cause ≡ NotACall)) (λ _. result ≡ Err Memory) → result ≡ Ok done →
+      IfOk problem (λ problem. problem ≡ wanted) → note_if number problem ≡ (number, wanted) ∷ []
+  note_made (Ok problem) result done h is e = ap (λ l. (number, l) ∷ []) e
   note_made (Err error) result done h is e = cc
 
   -- the notes end the run, or memory for a note runs out
-  pub note_last : (lack : Result Lack E) (result : Result ⊤ LineCause) (cause : LineCause) →
-      MatchResult lack (λ _. IfErr result (λ cause. cause ≡ NotACall)) (λ _. result ≡ Err Memory) → result ≡ Err cause →
-      IfOk lack (λ lack. lack ≡ wanted) → note_if number lack ≡ take (noted_at cause) ((number, wanted) ∷ [])
-  note_last (Ok lack) result cause h is e =
+  pub note_last : (problem : Result Problem E) (result : Result ⊤ LineCause) (cause : LineCause) →
+      MatchResult problem (λ _. IfErr result (λ cause. cause ≡ NotACall)) (λ _. result ≡ Err Memory) → result ≡ Err cause →
+      IfOk problem (λ problem. problem ≡ wanted) → note_if number problem ≡ take (noted_at cause) ((number, wanted) ∷ [])
+  note_last (Ok problem) result cause h is e =
       let of_notes : cause ≡ NotACall = subst (λ r. IfErr r (λ cause. cause ≡ NotACall)) is h in
       ap (λ l. (number, l) ∷ []) e ∙ ap (λ c. take (noted_at c) ((number, wanted) ∷ [])) (sym of_notes)
   note_last (Err error) result cause h is e =
@@ -78,9 +78,9 @@ module _ {E : Type 0} (number : ℕ) (wanted : Lack) where
       ap (λ c. take (noted_at c) ((number, wanted) ∷ [])) (sym memory)
 
 -- a note by the number that a line has
-pub noted_by_number : {E : Type 0} (lack : Result Lack E) (notes left : Option (List Note)) (number : ℕ) (more : List Note) (n : ℕ) →
-    AddsNotes (note_if n lack) notes left → n ≡ number → note_if number lack ≡ more → AddsNotes more notes left
-noted_by_number lack notes left number more n h place is =
-    let P : ℕ → Type 0 = λ n. AddsNotes (note_if n lack) notes left in
+pub noted_by_number : {E : Type 0} (problem : Result Problem E) (notes left : Option (List Note)) (number : ℕ) (more : List Note) (n : ℕ) →
+    AddsNotes (note_if n problem) notes left → n ≡ number → note_if number problem ≡ more → AddsNotes more notes left
+noted_by_number problem notes left number more n h place is =
+    let P : ℕ → Type 0 = λ n. AddsNotes (note_if n problem) notes left in
     let Q : List Note → Type 0 = λ notes_made. AddsNotes notes_made notes left in
     subst Q is (subst P place h)

@@ -15,7 +15,7 @@ use Rattle.ttree_source.specs.Moments.{moment_after, since_1970}
 use Rattle.tracing_tree_lines.specs.declared.lines.LineCause.TheVariants.{NotACall, Read}
 use Rattle.ttree_source.specs.Source.{CountsUnknown}
 use Rattle.ttree_source.specs.Traces.{begins_trace, without_return}
-use Rattle.ttree_source.specs.Told.{close_call, event_call, is_escaped, span_call}
+use Rattle.ttree_source.specs.Calls.{close_call, event_call, is_escaped, span_call}
 
 pub heading_of_a_build : after_mark (codes "# ") (codes "# q [q.test]") ≡ Some (codes "q [q.test]")
 heading_of_a_build = refl

@@ -15,8 +15,8 @@ use Rattle.ttree_source.specs.Levels.{level_in}
 use Rattle.ttree_source.specs.Moments.{instant_at, into_range}
 use Rattle.ttree_source.specs.Source.{Step}
 use Rattle.ttree_source.specs.Values.{text_at}
-use Rattle.ttree_source.specs.declared.notes.Lack.{Lack}
-use Rattle.ttree_source.specs.declared.notes.Lack.TheVariants.{Call as LacksCall, CallName, Level as NoLevel, Member}
+use Rattle.ttree_source.specs.declared.notes.Problem.{Problem}
+use Rattle.ttree_source.specs.declared.notes.Problem.TheVariants.{Call as IsNoCall, CallName, Level as NoLevel, Member}
 
 -- the instant at these nanoseconds since 1970, if there is one
 abbrev pub instant_of : ℤ → Option Timestamp
@@ -55,20 +55,20 @@ abbrev pub call_lines_ended : Unit {0} → Unit {0}
 call_lines_ended s = s
 
 -- what an object lacks that has this name of a call
-abbrev pub lack_of_named : List ℕ → Json → Lack
-lack_of_named name value =
+abbrev pub problem_of_named : List ℕ → Json → Problem
+problem_of_named name value =
     if not (list_any (bytes_eq name) call_words) then CallName
     else if bytes_eq name (codes "event") && is_none (level_in value) then NoLevel
     else Member
 
 -- what an object lacks that isn't a call: its name, a name that there is, an event's level, or else
 -- a member
-abbrev pub lack_of_call : Json → Lack
-lack_of_call value = named (text_at (codes "call") value) where
-  named : Option (List ℕ) → Lack
-  named None = LacksCall
-  named (Some name) = lack_of_named name value
+abbrev pub problem_of_call : Json → Problem
+problem_of_call value = named (text_at (codes "call") value) where
+  named : Option (List ℕ) → Problem
+  named None = IsNoCall
+  named (Some name) = problem_of_named name value
 
-abbrev pub call_lines_lacks : Option Json → Lack
-call_lines_lacks None = LacksCall
-call_lines_lacks (Some value) = lack_of_call value
+abbrev pub call_lines_problem : Option Json → Problem
+call_lines_problem None = IsNoCall
+call_lines_problem (Some value) = problem_of_call value

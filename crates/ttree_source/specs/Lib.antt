@@ -4,7 +4,7 @@ pub mod Counts
 pub mod Marks
 pub mod Noted
 pub mod Source
-pub mod Told
+pub mod Calls
 pub mod JsonText
 pub mod Fields
 pub mod Moments
@@ -17,5 +17,4 @@ pub mod Traces
 pub mod Plain
 pub mod Recorder
 pub mod CallLines
-pub mod Columns
 pub mod Length

@@ -6,8 +6,8 @@ use Rattle.tracing_tree_layer.specs.declared.call.Call.{Call}
 use Rattle.tracing_tree_lines.specs.Lines.Spelled.{is_skipped}
 use Rattle.ttree_source.specs.Source.{Step}
 use Rattle.ttree_source.specs.Traces.{plain_event}
-use Rattle.ttree_source.specs.declared.notes.Lack.{Lack}
-use Rattle.ttree_source.specs.declared.notes.Lack.TheVariants.{Object}
+use Rattle.ttree_source.specs.declared.notes.Problem.{Problem}
+use Rattle.ttree_source.specs.declared.notes.Problem.TheVariants.{Object}
 
 -- each line is an event at the root, except for a blank one
 abbrev pub plain_takes : Moment → List ℕ → Option Json → Option (Step Moment)
@@ -22,5 +22,5 @@ plain_ends moment = []
 abbrev pub plain_ended : Moment → Moment
 plain_ended moment = moment
 
-abbrev pub plain_lacks : Option Json → Lack
-plain_lacks value = Object
+abbrev pub plain_problem : Option Json → Problem
+plain_problem value = Object

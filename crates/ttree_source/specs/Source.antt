@@ -17,8 +17,8 @@ use Rattle.tracing_tree_lines.specs.declared.lines.LineCause.{LineCause}
 use Rattle.tracing_tree_lines.specs.declared.lines.LineCause.TheVariants.{Settings as NoSettings, NotACall, Read, Memory, Refused}
 use Rattle.tracing_tree_lines.specs.declared.lines.LineFault.{LineFault}
 use Rattle.ttree_source.specs.Noted.{Note}
-use Rattle.ttree_source.specs.declared.notes.Lack.{Lack}
-use Rattle.ttree_source.specs.declared.notes.Lack.TheVariants.{Utf8}
+use Rattle.ttree_source.specs.declared.notes.Problem.{Problem}
+use Rattle.ttree_source.specs.declared.notes.Problem.TheVariants.{Utf8}
 use Rattle.ttree_source.specs.declared.run.SourceRun.{SourceRun}
 use Rattle.ttree_source.specs.declared.run.Judged.{Judged}
 use Rattle.ttree_source.specs.declared.run.Judged.TheVariants.{End, Known, Unknown}
@@ -29,25 +29,25 @@ pub record Step (S : Type 0) : Type 0 where
   pub source : S
 
 -- what lines mean: calls, the source after them, and how many lines are unknown
-pub record Heard (S : Type 0) : Type 0 where
+pub record Interpreted (S : Type 0) : Type 0 where
   pub calls : List Call
   pub source : S
   pub unknown : ℕ
 
 module _ {S : Type 0} where
-  abbrev pub heard_step : S → Option (Step S) → Heard S
-  heard_step source None = record { calls = []; source = source; unknown = 1 }
-  heard_step source (Some step) = record {
+  abbrev pub interpreted_step : S → Option (Step S) → Interpreted S
+  interpreted_step source None = record { calls = []; source = source; unknown = 1 }
+  interpreted_step source (Some step) = record {
     calls = step.calls;
     source = step.source;
     unknown = 0;
   }
 
-  abbrev pub nothing_heard : S → Heard S
-  nothing_heard source = record { calls = []; source = source; unknown = 0 }
+  abbrev pub nothing_interpreted : S → Interpreted S
+  nothing_interpreted source = record { calls = []; source = source; unknown = 0 }
 
-  abbrev pub then_heard : Heard S → Heard S → Heard S
-  then_heard first next = record {
+  abbrev pub then_interpreted : Interpreted S → Interpreted S → Interpreted S
+  then_interpreted first next = record {
     calls = first.calls ++ next.calls;
     source = next.source;
     unknown = first.unknown + next.unknown;
@@ -55,27 +55,27 @@ module _ {S : Type 0} where
 
   module _ (takes : S → List ℕ → Option Json → Option (Step S)) where
     -- what a line means: one that isn't UTF-8 is unknown
-    abbrev pub hear_line : S → List ℕ → Heard S
-    hear_line source line =
-        if is_utf8 line then heard_step source (takes source line (document line))
-        else heard_step source None
+    abbrev pub interpret_line : S → List ℕ → Interpreted S
+    interpret_line source line =
+        if is_utf8 line then interpreted_step source (takes source line (document line))
+        else interpreted_step source None
 
     -- what lines mean, one after another
-    abbrev pub hear : S → List (List ℕ) → Heard S
-    hear source [] = nothing_heard source
-    hear source (line ∷ lines) =
-        let heard = hear_line source line in
-        then_heard heard (hear heard.source lines)
+    abbrev pub interpret : S → List (List ℕ) → Interpreted S
+    interpret source [] = nothing_interpreted source
+    interpret source (line ∷ lines) =
+        let interpreted = interpret_line source line in
+        then_interpreted interpreted (interpret interpreted.source lines)
 
     -- all calls of an input: those of its lines, and those of its end
     abbrev pub calls_of : (S → List Call) → S → List (List ℕ) → List Call
     calls_of ends source lines =
-        let heard = hear source lines in
-        heard.calls ++ ends heard.source
+        let interpreted = interpret source lines in
+        interpreted.calls ++ ends interpreted.source
 
     -- the source after an input: it has taken each line, and then its end
     abbrev pub source_after : (S → S) → S → List (List ℕ) → S
-    source_after ended source lines = ended (hear source lines).source
+    source_after ended source lines = ended (interpret source lines).source
 
 module _ {C : Type 0} (flushes : C → C → Type 0) where
   -- the receiver was flushed `count` times
@@ -94,11 +94,11 @@ module _ {C : Type 0} (answers : Call → Result Reply Refusal → C → C → T
       × answers call (Ok reply) shown between × Accepts calls between new
 
 -- what a line and its value mean is returned, and the source continues from there
-abbrev pub Tells : {S : Type 0} → Option (Step S) → S → S → Option (List Call) → Type 0
-Tells None old new None = new ≡ old
-Tells None old new (Some calls) = ⊥
-Tells (Some step) old new None = ⊥
-Tells (Some step) old new (Some calls) = (calls ≡ step.calls) × (new ≡ step.source)
+abbrev pub Emits : {S : Type 0} → Option (Step S) → S → S → Option (List Call) → Type 0
+Emits None old new None = new ≡ old
+Emits None old new (Some calls) = ⊥
+Emits (Some step) old new None = ⊥
+Emits (Some step) old new (Some calls) = (calls ≡ step.calls) × (new ≡ step.source)
 
 module _ {S : Type 0} where
   -- a line means the same whatever its value is
@@ -174,13 +174,13 @@ module _ {C : Type 0} (accepts : List Call → C → C → Type 0)
   MakesSome (Some cause) old new = (calls : List Call) × StopsIn calls cause old new
 
 -- what an unknown line lacks
-abbrev pub lack_of : (Option Json → Lack) → List ℕ → Lack
-lack_of lacks line = if is_utf8 line then lacks (document line) else Utf8
+abbrev pub problem_of : (Option Json → Problem) → List ℕ → Problem
+problem_of value_problem line = if is_utf8 line then value_problem (document line) else Utf8
 
 -- the note of a line, if it is unknown
-abbrev pub note_of : (Option Json → Lack) → ℕ → List ℕ → ℕ → List Note
-note_of lacks number line unknown =
-    if unknown == 0 then [] else (number, lack_of lacks line) ∷ []
+abbrev pub note_of : (Option Json → Problem) → ℕ → List ℕ → ℕ → List Note
+note_of value_problem number line unknown =
+    if unknown == 0 then [] else (number, problem_of value_problem line) ∷ []
 
 -- a line at which a run ended is noted if the notes ended it
 abbrev pub noted_at : LineCause → ℕ
@@ -190,52 +190,52 @@ noted_at Read = 0
 noted_at Memory = 0
 noted_at (Refused refusal) = 0
 
--- the lines of which a run noted the unknown ones: all, or those up to the fault
+-- the lines whose unknown ones a run noted: all, or those up to the fault
 abbrev pub noted_lines : SourceRun → List (List ℕ) → List (List ℕ)
 noted_lines run lines =
     option_map_or (λ fault. take (fault.line - 1 + noted_at fault.cause) lines) run.fault lines
 
 module _ {S : Type 0} (takes : S → List ℕ → Option Json → Option (Step S)) where
   -- the notes of these lines, numbered from `number` on: one for each unknown line
-  abbrev pub notes_of : (Option Json → Lack) → ℕ → S → List (List ℕ) → List Note
-  notes_of lacks number source [] = []
-  notes_of lacks number source (line ∷ lines) =
-      let heard = hear_line takes source line in
-      note_of lacks number line heard.unknown ++ notes_of lacks (number + 1) heard.source lines
+  abbrev pub notes_of : (Option Json → Problem) → ℕ → S → List (List ℕ) → List Note
+  notes_of value_problem number source [] = []
+  notes_of value_problem number source (line ∷ lines) =
+      let interpreted = interpret_line takes source line in
+      note_of value_problem number line interpreted.unknown ++ notes_of value_problem (number + 1) interpreted.source lines
 
   -- the calls of the next of these lines, or those of the end if no line is left
   abbrev pub next_calls : (S → List Call) → S → List (List ℕ) → List Call
   next_calls ends source [] = ends source
-  next_calls ends source (line ∷ others) = (hear_line takes source line).calls
+  next_calls ends source (line ∷ others) = (interpret_line takes source line).calls
 
   -- how many lines are unknown among the next line only
   abbrev pub next_unknown : S → List (List ℕ) → ℕ
   next_unknown source [] = 0
-  next_unknown source (line ∷ others) = (hear_line takes source line).unknown
+  next_unknown source (line ∷ others) = (interpret_line takes source line).unknown
 
 module _ {C : Type 0} (accepts : List Call → C → C → Type 0)
     (answers : Call → Result Reply Refusal → C → C → Type 0) {S : Type 0}
     (takes : S → List ℕ → Option Json → Option (Step S)) where
   -- what one line did; if it is known, the source continues as it says
-  abbrev pub HearsLine : List ℕ → S → S → Result Bool LineCause → C → C → Type 0
-  HearsLine line before after (Ok known) old new =
-      let heard = hear_line takes before line in
-      accepts heard.calls old new × (after ≡ heard.source)
-      × (heard.unknown ≡ (if known then 0 else 1))
-  HearsLine line before after (Err cause) old new =
-      StopsIn accepts answers (hear_line takes before line).calls cause old new
+  abbrev pub InterpretsLine : List ℕ → S → S → Result Bool LineCause → C → C → Type 0
+  InterpretsLine line before after (Ok known) old new =
+      let interpreted = interpret_line takes before line in
+      accepts interpreted.calls old new × (after ≡ interpreted.source)
+      × (interpreted.unknown ≡ (if known then 0 else 1))
+  InterpretsLine line before after (Err cause) old new =
+      StopsIn accepts answers (interpret_line takes before line).calls cause old new
 
   -- What the next line did, or the end. If it ended the run, these were its calls.
-  abbrev pub HearsNext : (S → List Call) → (S → S) → Option (List ℕ) → Option (List ℕ) → List ℕ → S
+  abbrev pub InterpretsNext : (S → List Call) → (S → S) → Option (List ℕ) → Option (List ℕ) → List ℕ → S
       → S → Result Judged LineCause → C → C → Type 0
-  HearsNext ends ended known left line before after (Ok End) old new =
+  InterpretsNext ends ended known left line before after (Ok End) old new =
       IfSome known (λ input. input_lines input ≡ []) × accepts (ends before) old new
       × (after ≡ ended before)
-  HearsNext ends ended known left line before after (Ok Known) old new =
-      TakesLine known left line × HearsLine line before after (Ok true) old new
-  HearsNext ends ended known left line before after (Ok Unknown) old new =
-      TakesLine known left line × HearsLine line before after (Ok false) old new
-  HearsNext ends ended known left line before after (Err cause) old new =
+  InterpretsNext ends ended known left line before after (Ok Known) old new =
+      TakesLine known left line × InterpretsLine line before after (Ok true) old new
+  InterpretsNext ends ended known left line before after (Ok Unknown) old new =
+      TakesLine known left line × InterpretsLine line before after (Ok false) old new
+  InterpretsNext ends ended known left line before after (Err cause) old new =
       MatchOption known (MakesSome accepts answers (Some cause) old new) (λ input.
       StopsIn accepts answers (next_calls takes ends before (input_lines input)) cause old new)
 
@@ -248,11 +248,11 @@ module _ {C : Type 0} (accepts : List Call → C → C → Type 0)
     pub split : before ++ others ≡ lines
     pub number : fault.line ≡ length before + 1
     pub between : C
-    pub makes : accepts (hear takes source before).calls old between
+    pub makes : accepts (interpret takes source before).calls old between
     pub stops : StopsIn accepts answers
-        (next_calls takes ends (hear takes source before).source others) fault.cause between new
-    pub counts : CountsUnknown fault.cause (hear takes source before).unknown
-        (next_unknown takes (hear takes source before).source others) run.unknown
+        (next_calls takes ends (interpret takes source before).source others) fault.cause between new
+    pub counts : CountsUnknown fault.cause (interpret takes source before).unknown
+        (next_unknown takes (interpret takes source before).source others) run.unknown
 
   -- The calls of the known lines and of the end were accepted, and the source has taken these lines
   -- and the end. If something ended the run, a first part of these calls was accepted.
@@ -261,7 +261,7 @@ module _ {C : Type 0} (accepts : List Call → C → C → Type 0)
   RunsLines ends ended lines source after run old new =
       MatchOption run.fault
       (accepts (calls_of takes ends source lines) old new
-      × (run.unknown ≡ (hear takes source lines).unknown)
+      × (run.unknown ≡ (interpret takes source lines).unknown)
       × (after ≡ source_after takes ended source lines))
       (λ fault. EndsAt ends lines source run fault old new)
 

@@ -7,7 +7,7 @@ use Rattle.tracing_tree_base.specs.declared.style.Level.{Level}
 use Rattle.tracing_tree_base.specs.declared.style.Level.TheVariants.{Error, Info}
 use Rattle.tracing_tree_layer.specs.declared.call.Call.{Call}
 use Rattle.ttree_source.specs.Marks.{after_mark, begins}
-use Rattle.ttree_source.specs.Told.{event_call, message_field}
+use Rattle.ttree_source.specs.Calls.{event_call, message_field}
 
 abbrev pub is_digit : ℕ → Bool
 is_digit byte = nat_le 48 byte && nat_le byte 57
@@ -79,7 +79,7 @@ begins_with_words line =
     || begins (codes "Traceback (most recent call last):") line
     || begins (codes "Exception in thread \"") line
 
--- a line with which Rust, Go, Python or Java begin a panic or a stack trace
+-- the first line of a panic or a stack trace of Rust, Go, Python or Java
 abbrev pub begins_trace : List ℕ → Bool
 begins_trace line =
     begins_rust_panic line || begins_goroutine line || begins_exception line
@@ -95,5 +95,5 @@ plain_level line = if begins_trace line then Error else Info
 
 -- the event of a line that isn't a JSON object, in the span above
 abbrev pub plain_event : Moment → List ℕ → Option Id → Call
-plain_event moment line above =
-    event_call moment (plain_level line) (message_field (without_return line) ∷ []) above
+plain_event moment line parent =
+    event_call moment (plain_level line) (message_field (without_return line) ∷ []) parent

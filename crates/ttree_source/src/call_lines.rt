@@ -2,12 +2,12 @@
 
 ghost use Rattle.std.specs.Prelude.{◌≡◌};
 ghost use Rattle.json.specs.Value.{value_view};
-ghost use Rattle.ttree_source.specs.CallLines.{lack_of_call, lack_of_named};
+ghost use Rattle.ttree_source.specs.CallLines.{problem_of_call, problem_of_named};
 
 use crate::fields::is_among;
 use crate::first::CALL_WORDS;
 use crate::level::level_in;
-use crate::notes::Lack;
+use crate::notes::Problem;
 use crate::recorder::Recorder;
 use crate::source::Source;
 use crate::values::text_at;
@@ -42,7 +42,7 @@ impl CallLines {
 }
 
 impl Source for CallLines {
-    ghost use Rattle.ttree_source.specs.CallLines.{call_lines_ended, call_lines_ends, call_lines_lacks, call_lines_takes};
+    ghost use Rattle.ttree_source.specs.CallLines.{call_lines_ended, call_lines_ends, call_lines_problem, call_lines_takes};
 
     ghost takes = { call_lines_takes };
 
@@ -50,7 +50,7 @@ impl Source for CallLines {
 
     ghost ended = { call_lines_ended };
 
-    ghost lacks = { call_lines_lacks };
+    ghost value_problem = { call_lines_problem };
 
     fn reads_values(&self) -> bool {
         false
@@ -73,10 +73,10 @@ impl Source for CallLines {
         }
     }
 
-    fn lack(value: Option<&Value<'_>>) -> Lack {
+    fn problem(value: Option<&Value<'_>>) -> Problem {
         match value {
-            Some(value) => lack_of_call(value),
-            None => Lack::Call,
+            Some(value) => problem_of_call(value),
+            None => Problem::Call,
         }
     }
 
@@ -86,24 +86,24 @@ impl Source for CallLines {
 }
 
 // Returns what is missing in an object that isn't a call.
-fn lack_of_call(value: &Value<'_>) -> Lack
-    ensures { result ≡ lack_of_call (value_view value.now) }
+fn problem_of_call(value: &Value<'_>) -> Problem
+    ensures { result ≡ problem_of_call (value_view value.now) }
 {
     match text_at(value, "call") {
-        Some(name) => lack_of_named(name, value),
-        None => Lack::Call,
+        Some(name) => problem_of_named(name, value),
+        None => Problem::Call,
     }
 }
 
 // Returns what is missing in an object that has this name of a call.
-fn lack_of_named(name: &str, value: &Value<'_>) -> Lack
-    ensures { result ≡ lack_of_named name.now (value_view value.now) }
+fn problem_of_named(name: &str, value: &Value<'_>) -> Problem
+    ensures { result ≡ problem_of_named name.now (value_view value.now) }
 {
     if !is_among(name, &CALL_WORDS) {
-        Lack::CallName
+        Problem::CallName
     } else if name == "event" && level_in(value).is_none() {
-        Lack::Level
+        Problem::Level
     } else {
-        Lack::Member
+        Problem::Member
     }
 }

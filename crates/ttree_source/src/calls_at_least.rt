@@ -8,7 +8,7 @@ use tracing_tree_base::style::Level;
 use tracing_tree_base::{Context, Id, Refusal};
 use tracing_tree_layer::call::{Call, Reply};
 use tracing_tree_layer::calls::Calls;
-use tracing_tree_layer::told::ToldEvent;
+use tracing_tree_layer::parts::EventParts;
 use tracing_tree_spans::registry::{Attributes, Record};
 
 /// A receiver that drops events below a level: such an event is accepted, and nothing happens. All
@@ -74,7 +74,7 @@ impl<C: Calls> Calls for CallsAtLeast<C> {
         self.receiver.record(id, values)
     }
 
-    fn event<E: ToldEvent>(&mut self, event: &E, context: &Context) -> Result<(), Refusal> {
+    fn event<E: EventParts>(&mut self, event: &E, context: &Context) -> Result<(), Refusal> {
         if rank(self.min_level) <= rank(event.level()) {
             self.receiver.event(event, context)
         } else {

@@ -5,8 +5,8 @@ ghost use Rattle.std.specs.List.{list_any};
 ghost use Rattle.json.specs.Value.{members_view, value_view};
 ghost use Rattle.ttree_source.specs.Fields.{event_fields, fields_besides, member_fields, members_fields, text_of};
 
+use crate::calls::shown;
 use crate::json_text::json_text;
-use crate::told::shown;
 use json::Value;
 use std::alloc::{AllocError, Global};
 use tracing_tree_base::field::{Field, Fields};
@@ -88,7 +88,7 @@ pub(crate) fn is_among(text: &str, keys: &[&str]) -> bool
     false
 }
 
-/// Returns a value as it is drawn: an array and an object as compact JSON.
+/// Returns the drawn form of a value: an array and an object as compact JSON.
 ///
 /// # Errors
 ///

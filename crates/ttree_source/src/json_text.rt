@@ -1,4 +1,4 @@
-//! JSON values as they are drawn in fields.
+//! JSON values in the form that fields have.
 
 ghost use Rattle.std.specs.Prelude.{◌≡◌, ◌++◌, true, IfOk, OnOk, codes, string_bytes};
 ghost use Rattle.json.specs.Value.{items_view, members_view, value_view};

@@ -4,7 +4,7 @@ ghost use Rattle.std.specs.Prelude.{◌≡◌};
 ghost use Rattle.json.specs.Value.{value_view};
 ghost use Rattle.ttree_source.specs.Levels.{is_shown, level_in, rank, shown_calls};
 
-use crate::notes::Lack;
+use crate::notes::Problem;
 use crate::source::Source;
 use crate::values::text_at;
 use json::Value;
@@ -61,7 +61,7 @@ impl<S: Source> Source for AtLeast<S> {
 
     ghost ended = { level_ended S.ended };
 
-    ghost lacks = { S.lacks };
+    ghost value_problem = { S.value_problem };
 
     fn reads_values(&self) -> bool {
         self.source.reads_values()
@@ -79,8 +79,8 @@ impl<S: Source> Source for AtLeast<S> {
         }
     }
 
-    fn lack(value: Option<&Value<'_>>) -> Lack {
-        S::lack(value)
+    fn problem(value: Option<&Value<'_>>) -> Problem {
+        S::problem(value)
     }
 
     fn end(&mut self, alloc: Global) -> Result<Vec<Call>, AllocError> {

@@ -7,7 +7,7 @@ use thiserror::Error;
 
 /// What is missing in an unknown line. It is displayed as a sentence about the line.
 #[derive(Clone, Copy, Debug, PartialEq, Eq, Error)]
-pub enum Lack {
+pub enum Problem {
     /// The line isn't UTF-8.
     #[error("not UTF-8")]
     Utf8,
@@ -76,6 +76,6 @@ pub trait Notes {
 
     /// Reports a skipped line, numbered from 1, with its bytes, which may be left out. Returns
     /// whether the run continues.
-    fn note(&mut self, number: u64, lack: Lack, line: &[u8]) -> bool
-        ensures { AddsNotes ((number, lack) ∷ []) (noted self.old) (noted self.new) };
+    fn note(&mut self, number: u64, problem: Problem, line: &[u8]) -> bool
+        ensures { AddsNotes ((number, problem) ∷ []) (noted self.old) (noted self.new) };
 }

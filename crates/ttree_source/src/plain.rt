@@ -2,7 +2,7 @@
 
 ghost use Rattle.std.specs.Prelude.{◌≡◌};
 
-use crate::notes::Lack;
+use crate::notes::Problem;
 use crate::source::Source;
 use crate::traces::plain_event;
 use json::Value;
@@ -37,7 +37,7 @@ impl Plain {
 }
 
 impl Source for Plain {
-    ghost use Rattle.ttree_source.specs.Plain.{plain_ended, plain_ends, plain_lacks, plain_takes};
+    ghost use Rattle.ttree_source.specs.Plain.{plain_ended, plain_ends, plain_problem, plain_takes};
 
     ghost takes = { plain_takes };
 
@@ -45,7 +45,7 @@ impl Source for Plain {
 
     ghost ended = { plain_ended };
 
-    ghost lacks = { plain_lacks };
+    ghost value_problem = { plain_problem };
 
     fn reads_values(&self) -> bool {
         false
@@ -64,8 +64,8 @@ impl Source for Plain {
         Ok(Some(calls))
     }
 
-    fn lack(_value: Option<&Value<'_>>) -> Lack {
-        Lack::Object
+    fn problem(_value: Option<&Value<'_>>) -> Problem {
+        Problem::Object
     }
 
     fn end(&mut self, alloc: Global) -> Result<Vec<Call>, AllocError> {

@@ -8,7 +8,7 @@ use std::marker::Model;
 use tracing_tree_base::{Context, Id, Refusal};
 use tracing_tree_layer::call::{Call, Reply, copied_context};
 use tracing_tree_layer::calls::Calls;
-use tracing_tree_layer::told::ToldEvent;
+use tracing_tree_layer::parts::EventParts;
 use tracing_tree_spans::registry::{Attributes, Record};
 
 /// A receiver that accepts all calls and keeps them in a list. A span's id is the number of the
@@ -88,7 +88,7 @@ impl Calls for Recorder {
         Ok(())
     }
 
-    fn event<E: ToldEvent>(&mut self, event: &E, context: &Context) -> Result<(), Refusal> {
+    fn event<E: EventParts>(&mut self, event: &E, context: &Context) -> Result<(), Refusal> {
         let event = event.to_event(self.alloc)?;
         let context = copied_context(context)?;
         self.calls.push(Call::Event(event, context))?;

@@ -5,12 +5,12 @@ ghost use Rattle.json.specs.Json.{document};
 ghost use Rattle.json.specs.Value.{value_view};
 ghost use Rattle.tracing_tree_layer.specs.Layer.Layers.{seen, Changes};
 ghost use Rattle.tracing_tree_layer.specs.Layered.Answered.{IsAnswered};
-ghost use Rattle.ttree_source.specs.Source.{Accepts, HearsLine, HearsNext, Makes, MakesAll, MakesEach, RunsSource, MayEnd, Tells, is_quiet, lack_of, noted_lines, notes_of};
+ghost use Rattle.ttree_source.specs.Source.{Accepts, InterpretsLine, InterpretsNext, Makes, MakesAll, MakesEach, RunsSource, MayEnd, Emits, is_quiet, problem_of, noted_lines, notes_of};
 ghost use Rattle.ttree_source.specs.Noted.{AddsNotes, note_if};
 ghost use Rattle.tracing_tree_lines.specs.Lines.Reads.{ReadsNext, is_from_outside};
 ghost use Rattle.tracing_tree_lines.specs.Lines.Spelled.{input_lines};
 
-use crate::notes::{Lack, Notes};
+use crate::notes::{Notes, Problem};
 use crate::source::Source;
 use crate::values::value_of;
 use json::{Error, Scratch, Value};
@@ -58,7 +58,7 @@ pub fn run_source<S: Source, L: LineInput, C: Calls, N: Notes>(
         receiver.old receiver.new }
     ensures cause { IfSome result.fault (λ fault. MayEnd fault.cause result.unknown) }
     ensures noted { IfSome (L.remaining lines.old) (λ input. AddsNotes
-        (notes_of S.takes S.lacks 1 source.old (noted_lines result (input_lines input)))
+        (notes_of S.takes S.value_problem 1 source.old (noted_lines result (input_lines input)))
         (N.noted notes.old) (N.noted notes.new)) }
 {
     let mut line = Vec::new(alloc);
@@ -76,8 +76,8 @@ pub fn run_source<S: Source, L: LineInput, C: Calls, N: Notes>(
             Ok(Judged::Known) => {}
             Ok(Judged::Unknown) => {
                 unknown += 1;
-                let lack = lack_of::<S>(alloc, line.as_slice(), &mut scratch);
-                if let Err(cause) = skip(notes, number, lack, line.as_slice()) {
+                let problem = problem_of::<S>(alloc, line.as_slice(), &mut scratch);
+                if let Err(cause) = skip(notes, number, problem, line.as_slice()) {
                     let fault = Some(LineFault {
                         line: number,
                         cause,
@@ -114,7 +114,7 @@ pub fn draw_source<S: Source, L: LineInput, W: Output, FT: FormatTime, N: Notes>
         source.old source.new result) layered.old layered.new }
     ensures cause { IfSome result.fault (λ fault. MayEnd fault.cause result.unknown) }
     ensures noted { IfSome (L.remaining lines.old) (λ input. AddsNotes
-        (notes_of S.takes S.lacks 1 source.old (noted_lines result (input_lines input)))
+        (notes_of S.takes S.value_problem 1 source.old (noted_lines result (input_lines input)))
         (N.noted notes.old) (N.noted notes.new)) }
 {
     run_source(alloc, source, lines, layered, notes)
@@ -125,23 +125,23 @@ pub fn draw_source<S: Source, L: LineInput, W: Output, FT: FormatTime, N: Notes>
 ///
 /// # Errors
 ///
-/// `NotACall` if the notes end the run. `Memory` if `lack` is an `AllocError`. Nothing is noted
+/// `NotACall` if the notes end the run. `Memory` if `problem` is an `AllocError`. Nothing is noted
 /// then.
 #[tactic(auto, using(crate::proofs::Noted::adds_none))]
 pub fn skip<N: Notes>(
     notes: &mut N,
     number: u64,
-    lack: Result<Lack, AllocError>,
+    problem: Result<Problem, AllocError>,
     line: &[u8],
 ) -> Result<(), LineCause>
     ensures quiet { IfErr result (λ cause. is_quiet cause ≡ true) }
-    ensures ended { MatchResult lack (λ _. IfErr result (λ cause. cause ≡ LineCause.NotACall))
+    ensures ended { MatchResult problem (λ _. IfErr result (λ cause. cause ≡ LineCause.NotACall))
         (λ _. result ≡ Err LineCause.Memory) }
-    ensures noted { AddsNotes (note_if number lack) (N.noted notes.old) (N.noted notes.new) }
+    ensures noted { AddsNotes (note_if number problem) (N.noted notes.old) (N.noted notes.new) }
 {
-    match lack {
-        Ok(lack) => {
-            if notes.note(number, lack, line) {
+    match problem {
+        Ok(problem) => {
+            if notes.note(number, problem, line) {
                 Ok(())
             } else {
                 Err(LineCause::NotACall)
@@ -152,24 +152,28 @@ pub fn skip<N: Notes>(
 }
 
 // Returns what is missing in an unknown line.
-fn lack_of<S: Source>(alloc: Global, line: &[u8], scratch: &mut Scratch) -> Result<Lack, AllocError>
-    ensures { IfOk result (λ lack. lack ≡ lack_of S.lacks line.now) }
+fn problem_of<S: Source>(
+    alloc: Global,
+    line: &[u8],
+    scratch: &mut Scratch,
+) -> Result<Problem, AllocError>
+    ensures { IfOk result (λ problem. problem ≡ problem_of S.value_problem line.now) }
 {
     match from_utf8(line) {
-        Ok(text) => lack_of_text::<S>(alloc, text, scratch),
-        Err(_) => Ok(Lack::Utf8),
+        Ok(text) => problem_of_text::<S>(alloc, text, scratch),
+        Err(_) => Ok(Problem::Utf8),
     }
 }
 
-fn lack_of_text<S: Source>(
+fn problem_of_text<S: Source>(
     alloc: Global,
     text: &str,
     scratch: &mut Scratch,
-) -> Result<Lack, AllocError>
-    ensures { IfOk result (λ lack. lack ≡ S.lacks (document text.now)) }
+) -> Result<Problem, AllocError>
+    ensures { IfOk result (λ problem. problem ≡ S.value_problem (document text.now)) }
 {
     let value = value_of(alloc, text, scratch)?;
-    Ok(S::lack(value.as_ref()))
+    Ok(S::problem(value.as_ref()))
 }
 
 // The result of a line.
@@ -209,7 +213,7 @@ fn run_read<S: Source, C: Calls>(
 ) -> Result<Judged, LineCause>
     requires outside { IfErr read (λ cause. is_from_outside cause ≡ true) }
     ensures next { (known left : Option (List ℕ)) → ReadsNext known left line.now read
-        → HearsNext (Accepts C.answers C.flushes) C.answers S.takes S.ends S.ended
+        → InterpretsNext (Accepts C.answers C.flushes) C.answers S.takes S.ends S.ended
         known left line.now source.old source.new result receiver.old receiver.new }
     ensures cause { IfErr result (λ cause. MayEnd cause 0) }
 {
@@ -235,17 +239,17 @@ fn run_line<S: Source, C: Calls>(
     scratch: &mut Scratch,
     receiver: &mut C,
 ) -> Result<bool, LineCause>
-    ensures line { HearsLine (Accepts C.answers C.flushes) C.answers S.takes line.now
+    ensures line { InterpretsLine (Accepts C.answers C.flushes) C.answers S.takes line.now
         source.old source.new result receiver.old receiver.new }
     ensures cause { IfErr result (λ cause. MayEnd cause 0) }
 {
     let Ok(text) = from_utf8(line) else {
         return Ok(false);
     };
-    let Ok(told) = hear(alloc, source, text, scratch) else {
+    let Ok(emitted) = interpret(alloc, source, text, scratch) else {
         return Err(LineCause::Memory);
     };
-    match told {
+    match emitted {
         Some(calls) => match make(calls, receiver) {
             Ok(()) => Ok(true),
             Err(refusal) => Err(LineCause::Refused(refusal)),
@@ -255,15 +259,15 @@ fn run_line<S: Source, C: Calls>(
 }
 
 // Returns the calls of a line. It is parsed only if the source reads its value.
-#[tactic(auto, using(crate::proofs::Heard::tells_anyway))]
-fn hear<S: Source>(
+#[tactic(auto, using(crate::proofs::Interpreted::emits_anyway))]
+fn interpret<S: Source>(
     alloc: Global,
     source: &mut S,
     text: &str,
     scratch: &mut Scratch,
 ) -> Result<Option<Vec<Call>>, AllocError>
-    ensures { IfOk result (λ told. Tells (S.takes source.old text.now (document text.now))
-        source.old source.new (option_map (λ calls. calls.items) told)) }
+    ensures { IfOk result (λ emitted. Emits (S.takes source.old text.now (document text.now))
+        source.old source.new (option_map (λ calls. calls.items) emitted)) }
 {
     if !source.reads_values() {
         return source.take(alloc, text, None);

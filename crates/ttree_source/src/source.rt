@@ -3,11 +3,11 @@
 ghost use Rattle.std.specs.Prelude.{◌≡◌, List, ℕ, Option, IfOk, OnOk, false, option_map};
 ghost use Rattle.json.specs.Json.{Json};
 ghost use Rattle.json.specs.Value.{value_view};
-ghost use Rattle.ttree_source.specs.Source.{IgnoresValues, Step, Tells};
+ghost use Rattle.ttree_source.specs.Source.{IgnoresValues, Step, Emits};
 ghost use Rattle.tracing_tree_layer.specs.declared.call.Call.{Call};
-ghost use Rattle.ttree_source.specs.declared.notes.Lack.{Lack};
+ghost use Rattle.ttree_source.specs.declared.notes.Problem.{Problem};
 
-use crate::notes::Lack;
+use crate::notes::Problem;
 use json::Value;
 use std::alloc::{AllocError, Global};
 use tracing_tree_layer::call::Call;
@@ -25,7 +25,7 @@ pub trait Source {
     ghost ended: { Self → Self };
 
     /// What is missing in an unknown line, given its JSON value if it is one.
-    ghost lacks: { Option Json → Lack };
+    ghost value_problem: { Option Json → Problem };
 
     /// Returns whether the calls of a line depend on its JSON value. If they don't, the line needs
     /// no parsing: `take` may be passed `None`.
@@ -47,13 +47,13 @@ pub trait Source {
         line: &str,
         value: Option<&Value<'_>>,
     ) -> Result<Option<Vec<Call>>, AllocError>
-        ensures { IfOk result (λ told. Tells
+        ensures { IfOk result (λ emitted. Emits
             (takes self.old line.now (option_map (λ v. value_view v.now) value.entry))
-            self.old self.new (option_map (λ calls. calls.items) told)) };
+            self.old self.new (option_map (λ calls. calls.items) emitted)) };
 
     /// Returns what is missing in an unknown line.
-    fn lack(value: Option<&Value<'_>>) -> Lack
-        ensures { result ≡ lacks (option_map (λ v. value_view v.now) value.entry) };
+    fn problem(value: Option<&Value<'_>>) -> Problem
+        ensures { result ≡ value_problem (option_map (λ v. value_view v.now) value.entry) };
 
     /// Returns the calls of the input's end.
     ///

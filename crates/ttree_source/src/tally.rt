@@ -12,7 +12,7 @@ use std::alloc::Global;
 use tracing_tree_base::{Context, Id, Refusal};
 use tracing_tree_layer::call::{Call, Reply};
 use tracing_tree_layer::calls::Calls;
-use tracing_tree_layer::told::ToldEvent;
+use tracing_tree_layer::parts::EventParts;
 use tracing_tree_lines::lines::LineInput;
 use tracing_tree_spans::registry::{Attributes, Record};
 
@@ -94,7 +94,7 @@ impl Calls for Tally {
         Ok(())
     }
 
-    fn event<E: ToldEvent>(&mut self, _event: &E, _context: &Context) -> Result<(), Refusal> {
+    fn event<E: EventParts>(&mut self, _event: &E, _context: &Context) -> Result<(), Refusal> {
         self.events = one_more(self.events)?;
         Ok(())
     }

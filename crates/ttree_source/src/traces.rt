@@ -4,8 +4,8 @@ ghost use Rattle.std.specs.Prelude.{◌≡◌, IfOk};
 ghost use Rattle.ttree_source.specs.Marks.{begins};
 ghost use Rattle.ttree_source.specs.Traces.{after_digits, after_name, begins_exception, begins_goroutine, begins_rust_panic, begins_trace, begins_with_words, describes_goroutine, holds_mark, is_digit, is_of_name, names_exception, plain_event, plain_level, without_return};
 
+use crate::calls::{event_call, message_field};
 use crate::marks::after_mark;
-use crate::told::{event_call, message_field};
 use std::alloc::{AllocError, Global};
 use tracing_tree_base::Id;
 use tracing_tree_base::field::Fields;
@@ -13,7 +13,7 @@ use tracing_tree_base::style::Level;
 use tracing_tree_layer::call::Call;
 use tracing_tree_time::Moment;
 
-/// Returns the event of a line that isn't a JSON object, in the span `above`.
+/// Returns the event of a line that isn't a JSON object, in the span `parent`.
 ///
 /// Its level is `Error` if the line starts a panic or a stack trace ([`begins_trace`]), otherwise
 /// `Info`. The message is the line without the carriage return at its end.
@@ -25,9 +25,9 @@ pub fn plain_event(
     alloc: Global,
     moment: Moment,
     line: &str,
-    above: Option<Id>,
+    parent: Option<Id>,
 ) -> Result<Call, AllocError>
-    ensures { IfOk result (λ call. call ≡ plain_event moment line.now above) }
+    ensures { IfOk result (λ call. call ≡ plain_event moment line.now parent) }
 {
     let message = message_field(alloc, without_return(line))?;
     event_call(
@@ -35,7 +35,7 @@ pub fn plain_event(
         moment,
         plain_level(line),
         Fields::one(alloc, message),
-        above,
+        parent,
     )
 }
 

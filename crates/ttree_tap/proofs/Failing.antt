@@ -15,8 +15,8 @@ use Rattle.tracing_tree_base.specs.declared.style.Level.TheVariants.{Trace, Debu
 use Rattle.tracing_tree_layer.specs.declared.call.Call.{Call}
 use Rattle.ttree_source.specs.Counts.{one_more}
 use Rattle.ttree_source.specs.Marks.{after_mark, is_empty}
-use Rattle.ttree_source.specs.Source.{Heard, Step, calls_of, hear, hear_line, heard_step, source_after, then_heard}
-use Rattle.ttree_source.specs.Told.{close_call, event_call, message_field, span_call}
+use Rattle.ttree_source.specs.Source.{Interpreted, Step, calls_of, interpret, interpret_line, interpreted_step, source_after, then_interpreted}
+use Rattle.ttree_source.specs.Calls.{close_call, event_call, message_field, span_call}
 use Rattle.ttree_tap.specs.declared.line.Kind.{Kind}
 use Rattle.ttree_tap.specs.declared.line.Kind.TheVariants.{Passing, Failing, Plan, BailOut, Heading as HeadingLine, Comment, Frame, Brace, Output}
 use Rattle.ttree_tap.specs.declared.queue.Role.{Role}
@@ -41,7 +41,7 @@ use Rattle.ttree_tap.specs.Queue.{QueueState, added, claimed, failed_added, line
 use Rattle.ttree_tap.specs.Strings.{rest_after, unescaped, without_end, without_leading, without_margin}
 use Rattle.ttree_tap.specs.Tally.{broken_tally, counted_tally, has_failed, level_of, tally_fields, verdict_of}
 use Rattle.ttree_tap.specs.Texts.{begins_block, duration_of, missing_text, name_in, no_plan_text, plan_text, unfinished_text}
-use Rattle.ttree_tap.specs.Tap.{TapState, after_taken, all_ended, bailed_out, begun, begun_anew, begun_as, begun_first, block_begun, block_taken, brace_ended, brace_ended_if, brace_taken, brace_taken_at, braces_opened, closed, closed_if, come, come_if, come_to, comment_taken, counted_waiting, deepened, deeper_left, detail_taken, error_told, file_come, file_opened, file_taken, finished, flushed, flushed_if, given_from, given_taken, good_told, handed_out, heading_ended, heading_ended_if, heading_placed, heading_taken, held_taken, held_taken_at, inner_left, input_ended, input_ended_in, inside_taken, is_passed_over, is_kept_plan, is_unjudged, judged, kind_taken, left, left_if, left_to, line_taken, line_told, lines_claimed, missed, next_taken, nothing_run, number_taken, one_counted, opened, opened_inside, outside_taken, output_taken, part_of, part_taken, place_of, plan_kept, plan_missed, plan_set, plan_taken, reporter_counts, restarted, result_beside, result_deeper, result_held, result_in, result_placed, result_taken, result_told, results_missed, role_in, role_of, row_told, script, script_closed, script_missed, skip_told, spanned, subtest_ended, subtest_ended_to, subtest_opened, summary_begun, summary_over, summary_taken, tail_taken, tail_told, taken_as, taken_if, taken_in, tally_call, tap_ended, tap_ends, tap_takes, text_taken, text_taken_if, timed, timed_or_told, told, unheld_taken, verdict_taken, verdict_told, waiting_of, waits, with_span, without_heading, without_result}
+use Rattle.ttree_tap.specs.Tap.{TapState, after_taken, all_ended, bailed_out, begun, begun_anew, begun_as, begun_first, block_begun, block_taken, brace_ended, brace_ended_if, brace_taken, brace_taken_at, braces_opened, closed, closed_if, come, come_if, come_to, comment_taken, counted_waiting, deepened, deeper_left, detail_taken, error_emitted, file_come, file_opened, file_taken, finished, flushed, flushed_if, given_from, given_taken, good_emitted, handed_out, heading_ended, heading_ended_if, heading_placed, heading_taken, held_taken, held_taken_at, inner_left, input_ended, input_ended_in, inside_taken, is_passed_over, is_kept_plan, is_unjudged, judged, kind_taken, left, left_if, left_to, line_taken, line_emitted, lines_claimed, missed, next_taken, nothing_run, number_taken, one_counted, opened, opened_inside, outside_taken, output_taken, part_of, part_taken, place_of, plan_kept, plan_missed, plan_set, plan_taken, reporter_counts, restarted, result_beside, result_deeper, result_held, result_in, result_placed, result_taken, result_emitted, results_missed, role_in, role_of, row_emitted, script, script_closed, script_missed, skip_emitted, spanned, subtest_ended, subtest_ended_to, subtest_opened, summary_begun, summary_over, summary_taken, tail_taken, tail_emitted, taken_as, taken_if, taken_in, tally_call, tap_ended, tap_ends, tap_takes, text_taken, text_taken_if, timed, timed_or_emitted, emitted, unheld_taken, verdict_taken, verdict_emitted, waiting_of, waits, with_span, without_heading, without_result}
 
 -- ---- tests
 
@@ -147,44 +147,44 @@ held e s j = record {
   one = inl j.none;
 }
 
-told_quiet : (e p : Bool) (role : Role) (call : Call) (s : TapState) → is_loud role ≡ false → is_error_row call ≡ false → Agrees e p s → Agrees e p (told role call s)
-told_quiet e p role call s calm quiet i = ap (λ r. (e || r) || p) (added_quiet role call s.queue calm quiet) ∙ i
+emitted_quiet : (e p : Bool) (role : Role) (call : Call) (s : TapState) → is_loud role ≡ false → is_error_row call ≡ false → Agrees e p s → Agrees e p (emitted role call s)
+emitted_quiet e p role call s calm quiet i = ap (λ r. (e || r) || p) (added_quiet role call s.queue calm quiet) ∙ i
 
-told_error : (e p : Bool) (text : List ℕ) (span : Option Id) (s : TapState) → Agrees e p (error_told text span s)
-told_error e p text span s = any_true e p _ (added_error (event_call s.moment Error (message_field text ∷ []) span) s.queue refl)
+emitted_error : (e p : Bool) (text : List ℕ) (span : Option Id) (s : TapState) → Agrees e p (error_emitted text span s)
+emitted_error e p text span s = any_true e p _ (added_error (event_call s.moment Error (message_field text ∷ []) span) s.queue refl)
 
-fails_with : (e : Bool) (text : List ℕ) (span : Option Id) (s : TapState) → Idle e s → Idle e (error_told text span s)
-fails_with e text span s j = record { agrees = told_error e false text span s; none = j.none; bare = j.bare }
+fails_with : (e : Bool) (text : List ℕ) (span : Option Id) (s : TapState) → Idle e s → Idle e (error_emitted text span s)
+fails_with e text span s j = record { agrees = emitted_error e false text span s; none = j.none; bare = j.bare }
 
-quiet : (e : Bool) (role : Role) (call : Call) (s : TapState) → is_loud role ≡ false → is_error_row call ≡ false → Idle e s → Idle e (told role call s)
-quiet e role call s calm still j = record { agrees = told_quiet e false role call s calm still j.agrees; none = j.none; bare = j.bare }
+quiet : (e : Bool) (role : Role) (call : Call) (s : TapState) → is_loud role ≡ false → is_error_row call ≡ false → Idle e s → Idle e (emitted role call s)
+quiet e role call s calm still j = record { agrees = emitted_quiet e false role call s calm still j.agrees; none = j.none; bare = j.bare }
 
 open_agrees : (e p : Bool) (name : List ℕ) (parent : Option Id) (s : TapState) → Agrees e p s → Agrees e p (opened name parent s)
 unfolding claimed
-open_agrees e p name parent s i = told_quiet e p Opening (span_call s.moment name [] parent) (lines_claimed name s) refl refl i
+open_agrees e p name parent s i = emitted_quiet e p Opening (span_call s.moment name [] parent) (lines_claimed name s) refl refl i
 
 opens_span : (e : Bool) (name : List ℕ) (parent : Option Id) (s : TapState) → Idle e s → Idle e (opened name parent s)
 opens_span e name parent s j = record { agrees = open_agrees e false name parent s j.agrees; none = j.none; bare = j.bare }
 
 closes_span : (e : Bool) (span parent : Option Id) (s : TapState) → Idle e s → Idle e (closed_if span parent s)
 closes_span e (Some id) parent s j =
-    let told_it = quiet e Closing (close_call s.moment id parent) s refl refl j in
-    record { agrees = told_it.agrees; none = told_it.none; bare = told_it.bare }
+    let emitted_it = quiet e Closing (close_call s.moment id parent) s refl refl j in
+    record { agrees = emitted_it.agrees; none = emitted_it.none; bare = emitted_it.bare }
 closes_span e None parent s j = j
 
 -- ---- the result that waits
 
 ended_row : (e : Bool) (verdict : Verdict) (span at : Option Id) (text : List ℕ) (fields : List Field) (s : TapState) → Agrees e (fails verdict) s
-    → Agrees e false (row_told (role_of verdict span) (level_of verdict) text fields at s)
+    → Agrees e false (row_emitted (role_of verdict span) (level_of verdict) text fields at s)
 ended_row e Failed span at text fields s i =
     any_true e false _ (added_error (event_call s.moment Error (message_field text ∷ fields) at) s.queue refl)
     ∙ sym (or_true (e || has_error s.queue.ready)) ∙ i
-ended_row e Passed (Some id) at text fields s i = told_quiet e false End _ s refl refl i
-ended_row e Passed None at text fields s i = told_quiet e false Good _ s refl refl i
-ended_row e Skipped (Some id) at text fields s i = told_quiet e false End _ s refl refl i
-ended_row e Skipped None at text fields s i = told_quiet e false Good _ s refl refl i
-ended_row e Todo (Some id) at text fields s i = told_quiet e false End _ s refl refl i
-ended_row e Todo None at text fields s i = told_quiet e false Good _ s refl refl i
+ended_row e Passed (Some id) at text fields s i = emitted_quiet e false End _ s refl refl i
+ended_row e Passed None at text fields s i = emitted_quiet e false Good _ s refl refl i
+ended_row e Skipped (Some id) at text fields s i = emitted_quiet e false End _ s refl refl i
+ended_row e Skipped None at text fields s i = emitted_quiet e false Good _ s refl refl i
+ended_row e Todo (Some id) at text fields s i = emitted_quiet e false End _ s refl refl i
+ended_row e Todo None at text fields s i = emitted_quiet e false Good _ s refl refl i
 
 finish : (e : Bool) (w : Waiting) (s : TapState) → Agrees e (fails w.verdict) s → s.waiting ≡ None → s.braced ≡ None → Idle e (finished w s)
 unfolding finished claimed
@@ -274,8 +274,8 @@ sets_plan : (e : Bool) (count : ℕ) (s : TapState) → Idle e s → Idle e (pla
 unfolding plan_set
 sets_plan e count s j = keeps_plan e count _ (choose (Idle e) (is_some s.subtest.planned) _ _ (restarts e s j) j)
 
-skips : (e : Bool) (reason : List ℕ) (s : TapState) → Idle e s → Idle e (skip_told reason s)
-unfolding skip_told
+skips : (e : Bool) (reason : List ℕ) (s : TapState) → Idle e s → Idle e (skip_emitted reason s)
+unfolding skip_emitted
 skips e reason s j = quiet e Good _ s refl refl j
 
 takes_plan : (e : Bool) (column : ℕ) (text : List ℕ) (s : TapState) → Idle e s → Idle e (plan_taken column text s)
@@ -283,7 +283,7 @@ unfolding plan_taken
 takes_plan e column text s j =
     let set : TapState = plan_set (planned text) (deepened column (deeper_left column s)) in
     let k = sets_plan e (planned text) _ (deepens e column _ (leaves_deeper e column s j)) in
-    choose (Idle e) (planned text == 0) (skip_told (plan_reason text) set) set (skips e (plan_reason text) set k) k
+    choose (Idle e) (planned text == 0) (skip_emitted (plan_reason text) set) set (skips e (plan_reason text) set k) k
 
 -- ---- results
 
@@ -319,15 +319,15 @@ counted Passed x t h = h
 counted Skipped x t h = h
 counted Todo x t h = h
 
-tells_result : (e : Bool) (span : Option Id) (name : List ℕ) (mark : Mark) (rest : List ℕ) (s : TapState) → Idle e s → Waits e (result_told span name mark rest s)
-tells_result e span name mark rest s j = record {
+emits_result : (e : Bool) (span : Option Id) (name : List ℕ) (mark : Mark) (rest : List ℕ) (s : TapState) → Idle e s → Waits e (result_emitted span name mark rest s)
+emits_result e span name mark rest s j = record {
   agrees = counted (waiting_of span name mark rest s).verdict (e || has_error s.queue.ready) s.tally j.agrees;
   bare = j.bare;
 }
 
 result : (e : Bool) (span : Option Id) (name : List ℕ) (mark : Mark) (rest : List ℕ) (s : TapState) → Idle e s → Waits e (result_in span name mark rest s)
 unfolding result_in
-result e span name mark rest s j = tells_result e span name mark rest _ (takes_number e (number_of rest) s j)
+result e span name mark rest s j = emits_result e span name mark rest _ (takes_number e (number_of rest) s j)
 
 ends_subtest_to : (e : Bool) (outer : List Subtest) (mark : Mark) (rest : List ℕ) (s : TapState) → Idle e s → Held e (subtest_ended_to outer mark rest s)
 ends_subtest_to e [] mark rest s j = held e s j
@@ -393,8 +393,8 @@ takes_brace e column text s j = takes_brace_at e s.subtest.result column text s 
 bails : (e : Bool) (text : List ℕ) (s : TapState) → Idle e s → Idle e (bailed_out text s)
 unfolding bailed_out
 bails e text s j =
-    same e (deeper_left 0 (without_heading (error_told text s.subtest.span s))) _ refl refl refl refl
-    (leaves_deeper e 0 _ (same e (error_told text s.subtest.span s) _ refl refl refl refl (fails_with e text s.subtest.span s j)))
+    same e (deeper_left 0 (without_heading (error_emitted text s.subtest.span s))) _ refl refl refl refl
+    (leaves_deeper e 0 _ (same e (error_emitted text s.subtest.span s) _ refl refl refl refl (fails_with e text s.subtest.span s j)))
 
 -- ---- what prove prints
 
@@ -404,27 +404,27 @@ comes_file e name s j =
     choose (Idle e) (Rattle.ttree_tap.specs.Tap.is_in_file name s) _ _ j
     (same e (opened name None (script_closed s)) _ refl refl refl refl (opens_span e name None _ (closes_script e s j)))
 
-tells_verdict : (e : Bool) (level : Level) (text : List ℕ) (s : TapState) → Idle e s → Idle e (verdict_told level text s)
-tells_verdict e Error text s j = same e (error_told text s.subtest.span s) _ refl refl refl refl (fails_with e text s.subtest.span s j)
-tells_verdict e Warn text s j = same e (good_told Warn text s) _ refl refl refl refl (quiet e End _ s refl refl j)
-tells_verdict e Info text s j = same e (good_told Info text s) _ refl refl refl refl (quiet e End _ s refl refl j)
-tells_verdict e Debug text s j = same e (good_told Debug text s) _ refl refl refl refl (quiet e End _ s refl refl j)
-tells_verdict e Trace text s j = same e (good_told Trace text s) _ refl refl refl refl (quiet e End _ s refl refl j)
+emits_verdict : (e : Bool) (level : Level) (text : List ℕ) (s : TapState) → Idle e s → Idle e (verdict_emitted level text s)
+emits_verdict e Error text s j = same e (error_emitted text s.subtest.span s) _ refl refl refl refl (fails_with e text s.subtest.span s j)
+emits_verdict e Warn text s j = same e (good_emitted Warn text s) _ refl refl refl refl (quiet e End _ s refl refl j)
+emits_verdict e Info text s j = same e (good_emitted Info text s) _ refl refl refl refl (quiet e End _ s refl refl j)
+emits_verdict e Debug text s j = same e (good_emitted Debug text s) _ refl refl refl refl (quiet e End _ s refl refl j)
+emits_verdict e Trace text s j = same e (good_emitted Trace text s) _ refl refl refl refl (quiet e End _ s refl refl j)
 
-tells_tail : (e : Bool) (level : Option Level) (tail : List ℕ) (s : TapState) → Idle e s → Idle e (tail_told level tail s)
-tells_tail e (Some level) tail s j = tells_verdict e level tail s j
-tells_tail e None tail s j = j
+emits_tail : (e : Bool) (level : Option Level) (tail : List ℕ) (s : TapState) → Idle e s → Idle e (tail_emitted level tail s)
+emits_tail e (Some level) tail s j = emits_verdict e level tail s j
+emits_tail e None tail s j = j
 
 outside : (e : Bool) (s : TapState) → Idle e s → Idle e (deeper_left 0 (without_heading s))
 outside e s j = leaves_deeper e 0 _ (same e s _ refl refl refl refl j)
 
 takes_file : (e : Bool) (text : List ℕ) (s : TapState) → Idle e s → Idle e (file_taken text s)
 unfolding file_taken
-takes_file e text s j = tells_tail e _ _ _ (comes_file e (name_of_file text) _ (outside e s j))
+takes_file e text s j = emits_tail e _ _ _ (comes_file e (name_of_file text) _ (outside e s j))
 
 takes_verdict : (e : Bool) (level : Level) (text : List ℕ) (s : TapState) → Idle e s → Idle e (verdict_taken level text s)
 unfolding verdict_taken
-takes_verdict e level text s j = tells_verdict e level _ _ (outside e s j)
+takes_verdict e level text s j = emits_verdict e level _ _ (outside e s j)
 
 begins_summary : (e : Bool) (s : TapState) → Idle e s → Idle e (summary_begun s)
 unfolding summary_begun
@@ -435,7 +435,7 @@ unfolding summary_taken
 ends_the_summary e text s k =
     choose (Held e) (ends_summary text) _ _
     (choose (Held e) (is_failed_summary text && not (has_failed s.tally)) _ _
-    (record { agrees = told_error e (pending s.waiting) text None (record s { mode = Over }); one = k.one }) (record { agrees = k.agrees; one = k.one }))
+    (record { agrees = emitted_error e (pending s.waiting) text None (record s { mode = Over }); one = k.one }) (record { agrees = k.agrees; one = k.one }))
     k
 
 -- ---- lines
@@ -505,9 +505,9 @@ finishes e w s k = finish e w s k.agrees k.none k.bare
 
 spans : (e : Bool) (is : Bool) (w : Waiting) (span : Option Id) (label text : List ℕ) (s t : TapState) → Agrees e (fails w.verdict) s → Agrees e (fails w.verdict) t →
     Agrees e (fails (if is then w else record w { span = span; label = label }).verdict)
-    (line_told OutputLine text (if is then w else record w { span = span; label = label }).span (if is then s else t))
-spans e true w span label text s t i k = told_quiet e _ OutputLine _ s refl refl i
-spans e false w span label text s t i k = told_quiet e _ OutputLine _ t refl refl k
+    (line_emitted OutputLine text (if is then w else record w { span = span; label = label }).span (if is then s else t))
+spans e true w span label text s t i k = emitted_quiet e _ OutputLine _ s refl refl i
+spans e false w span label text s t i k = emitted_quiet e _ OutputLine _ t refl refl k
 
 bare_if : (is : Bool) (s t : TapState) → s.braced ≡ None → t.braced ≡ None → (if is then s else t).braced ≡ None
 bare_if true s t hs ht = hs
@@ -520,14 +520,14 @@ details e w text s k = record {
   one = inr (bare_if (is_some w.span) s (opened w.label w.parent s) k.bare k.bare);
 }
 
-times_or_tells : (e : Bool) (time : Option ℕ) (w : Waiting) (rest : List ℕ) (s : TapState) → Taken e w s → Held e (timed_or_told time w rest s)
-times_or_tells e (Some nanoseconds) w rest s k = record { agrees = k.agrees; one = inr k.bare }
-times_or_tells e None w rest s k = details e w rest s k
+times_or_emits : (e : Bool) (time : Option ℕ) (w : Waiting) (rest : List ℕ) (s : TapState) → Taken e w s → Held e (timed_or_emitted time w rest s)
+times_or_emits e (Some nanoseconds) w rest s k = record { agrees = k.agrees; one = inr k.bare }
+times_or_emits e None w rest s k = details e w rest s k
 
 takes_inside : (e : Bool) (w : Waiting) (rest : List ℕ) (s : TapState) → Taken e w s → Held e (inside_taken w rest s)
 unfolding inside_taken
 takes_inside e w rest s k =
-    choose (Held e) (bytes_eq rest (codes "...")) _ _ (held e _ (finishes e w s k)) (times_or_tells e (duration_of rest) w rest s k)
+    choose (Held e) (bytes_eq rest (codes "...")) _ _ (held e _ (finishes e w s k)) (times_or_emits e (duration_of rest) w rest s k)
 
 takes_outside : (e : Bool) (w : Waiting) (text : List ℕ) (s : TapState) → Taken e w s → Held e (outside_taken w text s)
 unfolding outside_taken
@@ -595,31 +595,31 @@ returns_ready e s k = record {
 }
 
 -- an ERROR was returned before these calls, or by them
-abbrev AfterLine : Bool → Heard TapState → Type 0
-AfterLine e heard = Held (e || has_error heard.calls) heard.source
+abbrev AfterLine : Bool → Interpreted TapState → Type 0
+AfterLine e interpreted = Held (e || has_error interpreted.calls) interpreted.source
 
-known_line : (e : Bool) (s : TapState) (line : List ℕ) (value : Option Json) → Held e s → AfterLine e (heard_step s (tap_takes s line value))
+known_line : (e : Bool) (s : TapState) (line : List ℕ) (value : Option Json) → Held e s → AfterLine e (interpreted_step s (tap_takes s line value))
 known_line e s line value k =
     returns_ready e _ (choose (Held e) (is_passed_over line s) s (line_taken line s) k (takes_line e line s k))
 
 nothing_new : (e : Bool) (s : TapState) → Held e s → Held (e || false) s
 nothing_new e s k = subst (λ b. Held b s) (sym (or_false e)) k
 
-one_line : (e : Bool) (s : TapState) (line : List ℕ) → Held e s → AfterLine e (hear_line tap_takes s line)
+one_line : (e : Bool) (s : TapState) (line : List ℕ) → Held e s → AfterLine e (interpret_line tap_takes s line)
 one_line e s line k = by (is_utf8 line) where
-  by : (is : Bool) → AfterLine e (if is then heard_step s (tap_takes s line (document line)) else heard_step s None)
+  by : (is : Bool) → AfterLine e (if is then interpreted_step s (tap_takes s line (document line)) else interpreted_step s None)
   by true = known_line e s line (document line) k
   by false = nothing_new e s k
 
-two : (e : Bool) (first next : Heard TapState) → AfterLine (e || has_error first.calls) next → AfterLine e (then_heard first next)
+two : (e : Bool) (first next : Interpreted TapState) → AfterLine (e || has_error first.calls) next → AfterLine e (then_interpreted first next)
 two e first next k =
     subst (λ b. Held b next.source) (or_assoc e (has_error first.calls) (has_error next.calls) ∙ ap (λ b. e || b) (sym (list_any-append is_error_row first.calls next.calls))) k
 
-all_lines : (lines : List (List ℕ)) (e : Bool) (s : TapState) → Held e s → AfterLine e (hear tap_takes s lines)
+all_lines : (lines : List (List ℕ)) (e : Bool) (s : TapState) → Held e s → AfterLine e (interpret tap_takes s lines)
 all_lines [] e s k = nothing_new e s k
 all_lines (line ∷ lines) e s k =
-    two e (hear_line tap_takes s line) (hear tap_takes (hear_line tap_takes s line).source lines)
-    (all_lines lines (e || has_error (hear_line tap_takes s line).calls) (hear_line tap_takes s line).source (one_line e s line k))
+    two e (interpret_line tap_takes s line) (interpret tap_takes (interpret_line tap_takes s line).source lines)
+    (all_lines lines (e || has_error (interpret_line tap_takes s line).calls) (interpret_line tap_takes s line).source (one_line e s line k))
 
 -- ---- the end
 
@@ -669,9 +669,9 @@ pub failed_by_a_row : (is_failed_only : Bool) (next : ℕ) (moment : Moment) (li
     ≡ has_error (calls_before_counts (nothing_run is_failed_only next moment) lines)
 failed_by_a_row is_failed_only next moment lines =
     let s = nothing_run is_failed_only next moment in
-    let heard = hear tap_takes s lines in
-    let j = ends_all (has_error heard.calls) heard.source (all_lines lines false s (at_first is_failed_only next moment)) in
-    sym (list_any-append is_error_row heard.calls (all_ended heard.source).queue.ready ∙ sym (or_false _) ∙ j.agrees)
+    let interpreted = interpret tap_takes s lines in
+    let j = ends_all (has_error interpreted.calls) interpreted.source (all_lines lines false s (at_first is_failed_only next moment)) in
+    sym (list_any-append is_error_row interpreted.calls (all_ended interpreted.source).queue.ready ∙ sym (or_false _) ∙ j.agrees)
 
 -- the last row has the counts, and is an ERROR exactly if the run has failed
 pub last_row_counts : (is_failed_only : Bool) (next : ℕ) (moment : Moment) (lines : List (List ℕ)) →
@@ -679,4 +679,4 @@ pub last_row_counts : (is_failed_only : Bool) (next : ℕ) (moment : Moment) (li
     ≡ calls_before_counts (nothing_run is_failed_only next moment) lines ++ tally_call (after_all (nothing_run is_failed_only next moment) lines) ∷ []
 last_row_counts is_failed_only next moment lines =
     let s = nothing_run is_failed_only next moment in
-    sym (append_assoc (hear tap_takes s lines).calls (after_all s lines).queue.ready (tally_call (after_all s lines) ∷ []))
+    sym (append_assoc (interpret tap_takes s lines).calls (after_all s lines).queue.ready (tally_call (after_all s lines) ∷ []))

@@ -7,7 +7,7 @@ use Rattle.tracing_tree_base.specs.declared.context.Moment.{Moment}
 use Rattle.tracing_tree_layer.specs.declared.call.Call.{Call}
 use Rattle.tracing_tree_spans.specs.Registry.Ids.{id_of}
 use Rattle.tracing_tree_base.specs.declared.style.Level.TheVariants.{Error, Info}
-use Rattle.ttree_source.specs.Told.{close_call, event_call, message_field, span_call}
+use Rattle.ttree_source.specs.Calls.{close_call, event_call, message_field, span_call}
 use Rattle.ttree_tap.specs.declared.line.Kind.TheVariants.{Passing, Failing, Plan, Heading, Frame, Output}
 use Rattle.ttree_source.specs.Length.{length_text}
 use Rattle.ttree_tap.specs.Length.{milliseconds}
@@ -15,7 +15,7 @@ use Rattle.ttree_tap.specs.Line.{directive_of, is_count, is_file, kind_of, plan_
 use Rattle.ttree_tap.specs.Strings.{same_word, unescaped}
 use Rattle.ttree_tap.specs.Tally.{has_failed}
 use Rattle.ttree_tap.specs.Queue.{added, claimed}
-use Rattle.ttree_tap.specs.Tap.{TapState, after_taken, all_ended, bailed_out, begun, brace_ended, brace_taken, braces_opened, block_taken, come, comment_taken, deepened, deeper_left, detail_taken, file_come, file_taken, finished, flushed, heading_ended, heading_taken, held_taken, input_ended, inside_taken, kind_taken, line_taken, next_taken, nothing_run, number_taken, output_taken, outside_taken, part_taken, plan_set, plan_taken, result_in, result_taken, script_closed, skip_told, subtest_ended, subtest_opened, summary_begun, summary_taken, text_taken, unheld_taken, verdict_taken, waiting_of}
+use Rattle.ttree_tap.specs.Tap.{TapState, after_taken, all_ended, bailed_out, begun, brace_ended, brace_taken, braces_opened, block_taken, come, comment_taken, deepened, deeper_left, detail_taken, file_come, file_taken, finished, flushed, heading_ended, heading_taken, held_taken, input_ended, inside_taken, kind_taken, line_taken, next_taken, nothing_run, number_taken, output_taken, outside_taken, part_taken, plan_set, plan_taken, result_in, result_taken, script_closed, skip_emitted, subtest_ended, subtest_opened, summary_begun, summary_taken, text_taken, unheld_taken, verdict_taken, waiting_of}
 use Rattle.ttree_tap.specs.Texts.{elapsed_text, end_fields, name_in, reason_in}
 
 -- ---- lines
@@ -110,13 +110,13 @@ module _ (moment : Moment) where
   shown_after lines = (taken lines (nothing_run false 1 moment)).queue.ready
 
   pub a_result_waits : shown_after (codes "ok 1 - adds" ∷ []) ≡ []
-  unfolding kind_of next_taken directive_of same_word chars encode_utf8 result_taken plan_taken heading_taken comment_taken bailed_out output_taken come kind_taken file_taken verdict_taken summary_begun finished deeper_left result_in detail_taken part_taken text_taken heading_ended script_closed flushed unheld_taken held_taken brace_taken braces_opened brace_ended input_ended summary_taken added claimed block_taken line_taken inside_taken outside_taken deepened waiting_of subtest_ended file_come skip_told plan_set number_taken subtest_opened begun after_taken all_ended
+  unfolding kind_of next_taken directive_of same_word chars encode_utf8 result_taken plan_taken heading_taken comment_taken bailed_out output_taken come kind_taken file_taken verdict_taken summary_begun finished deeper_left result_in detail_taken part_taken text_taken heading_ended script_closed flushed unheld_taken held_taken brace_taken braces_opened brace_ended input_ended summary_taken added claimed block_taken line_taken inside_taken outside_taken deepened waiting_of subtest_ended file_come skip_emitted plan_set number_taken subtest_opened begun after_taken all_ended
   a_result_waits = refl
 
   pub a_result_with_its_time :
       shown_after (codes "ok 1 - adds" ∷ codes "  ---" ∷ codes "  duration_ms: 3.366627" ∷ codes "  ..." ∷ [])
       ≡ event_call moment Info (message_field (codes "pass adds") ∷ end_fields [] (codes "3.366ms")) None ∷ []
-  unfolding kind_of next_taken after_taken directive_of same_word chars encode_utf8 digits result_taken plan_taken heading_taken comment_taken bailed_out output_taken come kind_taken file_taken verdict_taken summary_begun finished deeper_left result_in detail_taken part_taken text_taken heading_ended script_closed flushed unheld_taken held_taken brace_taken braces_opened brace_ended input_ended summary_taken added claimed block_taken line_taken inside_taken outside_taken deepened waiting_of subtest_ended file_come skip_told plan_set number_taken subtest_opened begun all_ended
+  unfolding kind_of next_taken after_taken directive_of same_word chars encode_utf8 digits result_taken plan_taken heading_taken comment_taken bailed_out output_taken come kind_taken file_taken verdict_taken summary_begun finished deeper_left result_in detail_taken part_taken text_taken heading_ended script_closed flushed unheld_taken held_taken brace_taken braces_opened brace_ended input_ended summary_taken added claimed block_taken line_taken inside_taken outside_taken deepened waiting_of subtest_ended file_come skip_emitted plan_set number_taken subtest_opened begun all_ended
   a_result_with_its_time = refl
 
   pub a_block_is_in_a_span :
@@ -125,14 +125,14 @@ module _ (moment : Moment) where
       ∷ event_call moment Info (message_field (codes "error: 'x'") ∷ []) (Some (id_of 1))
       ∷ event_call moment Error (message_field (codes "fail") ∷ []) (Some (id_of 1))
       ∷ close_call moment (id_of 1) None ∷ []
-  unfolding kind_of next_taken after_taken directive_of same_word chars encode_utf8 result_taken plan_taken heading_taken comment_taken bailed_out output_taken come kind_taken file_taken verdict_taken summary_begun finished deeper_left result_in detail_taken part_taken text_taken heading_ended script_closed flushed unheld_taken held_taken brace_taken braces_opened brace_ended input_ended summary_taken added claimed block_taken line_taken inside_taken outside_taken deepened waiting_of subtest_ended file_come skip_told plan_set number_taken subtest_opened begun all_ended
+  unfolding kind_of next_taken after_taken directive_of same_word chars encode_utf8 result_taken plan_taken heading_taken comment_taken bailed_out output_taken come kind_taken file_taken verdict_taken summary_begun finished deeper_left result_in detail_taken part_taken text_taken heading_ended script_closed flushed unheld_taken held_taken brace_taken braces_opened brace_ended input_ended summary_taken added claimed block_taken line_taken inside_taken outside_taken deepened waiting_of subtest_ended file_come skip_emitted plan_set number_taken subtest_opened begun all_ended
   a_block_is_in_a_span = refl
 
   pub a_leaf_opens_no_span :
       shown_after (codes "# Subtest: adds" ∷ codes "ok 1 - adds" ∷ codes "# next" ∷ [])
       ≡ event_call moment Info (message_field (codes "pass adds") ∷ []) None
       ∷ event_call moment Info (message_field (codes "next") ∷ []) None ∷ []
-  unfolding kind_of next_taken after_taken directive_of same_word chars encode_utf8 result_taken plan_taken heading_taken comment_taken bailed_out output_taken come kind_taken file_taken verdict_taken summary_begun finished deeper_left result_in detail_taken part_taken text_taken heading_ended script_closed flushed unheld_taken held_taken brace_taken braces_opened brace_ended input_ended summary_taken added claimed block_taken line_taken inside_taken outside_taken deepened waiting_of subtest_ended file_come skip_told plan_set number_taken subtest_opened begun all_ended
+  unfolding kind_of next_taken after_taken directive_of same_word chars encode_utf8 result_taken plan_taken heading_taken comment_taken bailed_out output_taken come kind_taken file_taken verdict_taken summary_begun finished deeper_left result_in detail_taken part_taken text_taken heading_ended script_closed flushed unheld_taken held_taken brace_taken braces_opened brace_ended input_ended summary_taken added claimed block_taken line_taken inside_taken outside_taken deepened waiting_of subtest_ended file_come skip_emitted plan_set number_taken subtest_opened begun all_ended
   a_leaf_opens_no_span = refl
 
   pub a_subtest_opens_with_a_deeper_line :
@@ -141,38 +141,38 @@ module _ (moment : Moment) where
       ∷ event_call moment Info (message_field (codes "pass b") ∷ []) (Some (id_of 1))
       ∷ event_call moment Error (message_field (codes "fail") ∷ []) (Some (id_of 1))
       ∷ close_call moment (id_of 1) None ∷ []
-  unfolding kind_of next_taken after_taken directive_of same_word chars encode_utf8 result_taken plan_taken heading_taken comment_taken bailed_out output_taken come kind_taken file_taken verdict_taken summary_begun finished deeper_left result_in detail_taken part_taken text_taken heading_ended script_closed flushed unheld_taken held_taken brace_taken braces_opened brace_ended input_ended summary_taken added claimed block_taken line_taken inside_taken outside_taken deepened waiting_of subtest_ended file_come skip_told plan_set number_taken subtest_opened begun all_ended
+  unfolding kind_of next_taken after_taken directive_of same_word chars encode_utf8 result_taken plan_taken heading_taken comment_taken bailed_out output_taken come kind_taken file_taken verdict_taken summary_begun finished deeper_left result_in detail_taken part_taken text_taken heading_ended script_closed flushed unheld_taken held_taken brace_taken braces_opened brace_ended input_ended summary_taken added claimed block_taken line_taken inside_taken outside_taken deepened waiting_of subtest_ended file_come skip_emitted plan_set number_taken subtest_opened begun all_ended
   a_subtest_opens_with_a_deeper_line = refl
 
   pub a_plan_that_is_not_met :
       has_failed (all_ended (taken (codes "1..2" ∷ codes "ok 1" ∷ []) (nothing_run false 1 moment))).tally ≡ true
-  unfolding kind_of next_taken after_taken all_ended directive_of same_word chars encode_utf8 digits result_taken plan_taken heading_taken comment_taken bailed_out output_taken come kind_taken file_taken verdict_taken summary_begun finished deeper_left result_in detail_taken part_taken text_taken heading_ended script_closed flushed unheld_taken held_taken brace_taken braces_opened brace_ended input_ended summary_taken added claimed block_taken line_taken inside_taken outside_taken deepened waiting_of subtest_ended file_come skip_told plan_set number_taken subtest_opened begun
+  unfolding kind_of next_taken after_taken all_ended directive_of same_word chars encode_utf8 digits result_taken plan_taken heading_taken comment_taken bailed_out output_taken come kind_taken file_taken verdict_taken summary_begun finished deeper_left result_in detail_taken part_taken text_taken heading_ended script_closed flushed unheld_taken held_taken brace_taken braces_opened brace_ended input_ended summary_taken added claimed block_taken line_taken inside_taken outside_taken deepened waiting_of subtest_ended file_come skip_emitted plan_set number_taken subtest_opened begun
   a_plan_that_is_not_met = refl
 
   pub a_plan_that_is_met :
       has_failed (all_ended (taken (codes "1..1" ∷ codes "not ok 1 # TODO" ∷ []) (nothing_run false 1 moment))).tally ≡ false
-  unfolding kind_of next_taken after_taken all_ended directive_of same_word chars encode_utf8 digits result_taken plan_taken heading_taken comment_taken bailed_out output_taken come kind_taken file_taken verdict_taken summary_begun finished deeper_left result_in detail_taken part_taken text_taken heading_ended script_closed flushed unheld_taken held_taken brace_taken braces_opened brace_ended input_ended summary_taken added claimed block_taken line_taken inside_taken outside_taken deepened waiting_of subtest_ended file_come skip_told plan_set number_taken subtest_opened begun
+  unfolding kind_of next_taken after_taken all_ended directive_of same_word chars encode_utf8 digits result_taken plan_taken heading_taken comment_taken bailed_out output_taken come kind_taken file_taken verdict_taken summary_begun finished deeper_left result_in detail_taken part_taken text_taken heading_ended script_closed flushed unheld_taken held_taken brace_taken braces_opened brace_ended input_ended summary_taken added claimed block_taken line_taken inside_taken outside_taken deepened waiting_of subtest_ended file_come skip_emitted plan_set number_taken subtest_opened begun
   a_plan_that_is_met = refl
 
   pub nothing_comes_after_bail_out :
       shown_after (codes "Bail out! no" ∷ codes "ok 1" ∷ codes "ok 2" ∷ [])
       ≡ event_call moment Error (message_field (codes "Bail out! no") ∷ []) None ∷ []
-  unfolding kind_of next_taken after_taken directive_of same_word chars encode_utf8 result_taken plan_taken heading_taken comment_taken bailed_out output_taken come kind_taken file_taken verdict_taken summary_begun finished deeper_left result_in detail_taken part_taken text_taken heading_ended script_closed flushed unheld_taken held_taken brace_taken braces_opened brace_ended input_ended summary_taken added claimed block_taken line_taken inside_taken outside_taken deepened waiting_of subtest_ended file_come skip_told plan_set number_taken subtest_opened begun all_ended
+  unfolding kind_of next_taken after_taken directive_of same_word chars encode_utf8 result_taken plan_taken heading_taken comment_taken bailed_out output_taken come kind_taken file_taken verdict_taken summary_begun finished deeper_left result_in detail_taken part_taken text_taken heading_ended script_closed flushed unheld_taken held_taken brace_taken braces_opened brace_ended input_ended summary_taken added claimed block_taken line_taken inside_taken outside_taken deepened waiting_of subtest_ended file_come skip_emitted plan_set number_taken subtest_opened begun all_ended
   nothing_comes_after_bail_out = refl
 
   pub a_bare_ok_of_prove :
       shown_after (codes "t/a.t .. " ∷ codes "ok" ∷ [])
       ≡ span_call moment (codes "t/a.t") [] None
       ∷ event_call moment Info (message_field (codes "ok") ∷ []) (Some (id_of 1)) ∷ []
-  unfolding kind_of next_taken after_taken verdict_level chars encode_utf8 result_taken plan_taken heading_taken comment_taken bailed_out output_taken come kind_taken file_taken verdict_taken summary_begun finished deeper_left result_in detail_taken part_taken text_taken heading_ended script_closed flushed unheld_taken held_taken brace_taken braces_opened brace_ended input_ended summary_taken added claimed block_taken line_taken inside_taken outside_taken deepened waiting_of subtest_ended file_come skip_told plan_set number_taken subtest_opened begun all_ended
+  unfolding kind_of next_taken after_taken verdict_level chars encode_utf8 result_taken plan_taken heading_taken comment_taken bailed_out output_taken come kind_taken file_taken verdict_taken summary_begun finished deeper_left result_in detail_taken part_taken text_taken heading_ended script_closed flushed unheld_taken held_taken brace_taken braces_opened brace_ended input_ended summary_taken added claimed block_taken line_taken inside_taken outside_taken deepened waiting_of subtest_ended file_come skip_emitted plan_set number_taken subtest_opened begun all_ended
   a_bare_ok_of_prove = refl
 
   pub no_plan : has_failed (all_ended (taken (codes "ok 1" ∷ []) (nothing_run false 1 moment))).tally ≡ true
-  unfolding kind_of next_taken after_taken all_ended directive_of same_word chars encode_utf8 digits result_taken plan_taken heading_taken comment_taken bailed_out output_taken come kind_taken file_taken verdict_taken summary_begun finished deeper_left result_in detail_taken part_taken text_taken heading_ended script_closed flushed unheld_taken held_taken brace_taken braces_opened brace_ended input_ended summary_taken added claimed block_taken line_taken inside_taken outside_taken deepened waiting_of subtest_ended file_come skip_told plan_set number_taken subtest_opened begun
+  unfolding kind_of next_taken after_taken all_ended directive_of same_word chars encode_utf8 digits result_taken plan_taken heading_taken comment_taken bailed_out output_taken come kind_taken file_taken verdict_taken summary_begun finished deeper_left result_in detail_taken part_taken text_taken heading_ended script_closed flushed unheld_taken held_taken brace_taken braces_opened brace_ended input_ended summary_taken added claimed block_taken line_taken inside_taken outside_taken deepened waiting_of subtest_ended file_come skip_emitted plan_set number_taken subtest_opened begun
   no_plan = refl
 
   pub no_line_of_tap : has_failed (all_ended (taken (codes "hello" ∷ []) (nothing_run false 1 moment))).tally ≡ true
-  unfolding kind_of next_taken after_taken all_ended directive_of same_word chars encode_utf8 digits result_taken plan_taken heading_taken comment_taken bailed_out output_taken come kind_taken file_taken verdict_taken summary_begun finished deeper_left result_in detail_taken part_taken text_taken heading_ended script_closed flushed unheld_taken held_taken brace_taken braces_opened brace_ended input_ended summary_taken added claimed block_taken line_taken inside_taken outside_taken deepened waiting_of subtest_ended file_come skip_told plan_set number_taken subtest_opened begun
+  unfolding kind_of next_taken after_taken all_ended directive_of same_word chars encode_utf8 digits result_taken plan_taken heading_taken comment_taken bailed_out output_taken come kind_taken file_taken verdict_taken summary_begun finished deeper_left result_in detail_taken part_taken text_taken heading_ended script_closed flushed unheld_taken held_taken brace_taken braces_opened brace_ended input_ended summary_taken added claimed block_taken line_taken inside_taken outside_taken deepened waiting_of subtest_ended file_come skip_emitted plan_set number_taken subtest_opened begun
   no_line_of_tap = refl
 
   pub a_subtest_in_braces :
@@ -181,7 +181,7 @@ module _ (moment : Moment) where
       ∷ event_call moment Info (message_field (codes "pass b") ∷ []) (Some (id_of 1))
       ∷ event_call moment Error (message_field (codes "fail") ∷ []) (Some (id_of 1))
       ∷ close_call moment (id_of 1) None ∷ []
-  unfolding kind_of next_taken after_taken all_ended directive_of same_word chars encode_utf8 digits result_taken plan_taken heading_taken comment_taken bailed_out output_taken come kind_taken file_taken verdict_taken summary_begun finished deeper_left result_in detail_taken part_taken text_taken heading_ended script_closed flushed unheld_taken held_taken brace_taken braces_opened brace_ended input_ended summary_taken added claimed block_taken line_taken inside_taken outside_taken deepened waiting_of subtest_ended file_come skip_told plan_set number_taken subtest_opened begun
+  unfolding kind_of next_taken after_taken all_ended directive_of same_word chars encode_utf8 digits result_taken plan_taken heading_taken comment_taken bailed_out output_taken come kind_taken file_taken verdict_taken summary_begun finished deeper_left result_in detail_taken part_taken text_taken heading_ended script_closed flushed unheld_taken held_taken brace_taken braces_opened brace_ended input_ended summary_taken added claimed block_taken line_taken inside_taken outside_taken deepened waiting_of subtest_ended file_come skip_emitted plan_set number_taken subtest_opened begun
   a_subtest_in_braces = refl
 
   pub only_what_failed :
@@ -190,5 +190,5 @@ module _ (moment : Moment) where
       ∷ event_call moment Error (message_field (codes "fail d") ∷ []) (Some (id_of 1))
       ∷ event_call moment Error (message_field (codes "fail") ∷ []) (Some (id_of 1))
       ∷ close_call moment (id_of 1) None ∷ []
-  unfolding kind_of next_taken after_taken all_ended directive_of same_word chars encode_utf8 digits result_taken plan_taken heading_taken comment_taken bailed_out output_taken come kind_taken file_taken verdict_taken summary_begun finished deeper_left result_in detail_taken part_taken text_taken heading_ended script_closed flushed unheld_taken held_taken brace_taken braces_opened brace_ended input_ended summary_taken added claimed block_taken line_taken inside_taken outside_taken deepened waiting_of subtest_ended file_come skip_told plan_set number_taken subtest_opened begun
+  unfolding kind_of next_taken after_taken all_ended directive_of same_word chars encode_utf8 digits result_taken plan_taken heading_taken comment_taken bailed_out output_taken come kind_taken file_taken verdict_taken summary_begun finished deeper_left result_in detail_taken part_taken text_taken heading_ended script_closed flushed unheld_taken held_taken brace_taken braces_opened brace_ended input_ended summary_taken added claimed block_taken line_taken inside_taken outside_taken deepened waiting_of subtest_ended file_come skip_emitted plan_set number_taken subtest_opened begun
   only_what_failed = refl

@@ -5,7 +5,7 @@ use Rattle.tracing_tree_base.specs.declared.style.Level.{Level}
 use Rattle.tracing_tree_base.specs.declared.style.Level.TheVariants.{Trace, Debug, Error, Info, Warn}
 use Rattle.tracing_tree_layer.specs.declared.call.Call.{Call}
 use Rattle.tracing_tree_layer.specs.declared.call.Call.TheVariants.{New, Clone, Record, Event, Close}
-use Rattle.ttree_source.specs.Source.{hear}
+use Rattle.ttree_source.specs.Source.{interpret}
 use Rattle.ttree_tap.specs.Tap.{TapState, all_ended, tap_takes}
 
 abbrev pub is_error : Level → Bool
@@ -28,8 +28,8 @@ has_error calls = list_any is_error_row calls
 
 -- the state after all lines and their end
 abbrev pub after_all : TapState → List (List ℕ) → TapState
-after_all s lines = all_ended (hear tap_takes s lines).source
+after_all s lines = all_ended (interpret tap_takes s lines).source
 
 -- the calls of all lines and of their end, without the last row, which counts the results
 abbrev pub calls_before_counts : TapState → List (List ℕ) → List Call
-calls_before_counts s lines = (hear tap_takes s lines).calls ++ (after_all s lines).queue.ready
+calls_before_counts s lines = (interpret tap_takes s lines).calls ++ (after_all s lines).queue.ready

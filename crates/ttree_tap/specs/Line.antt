@@ -89,7 +89,7 @@ abbrev pub comment_of : List ℕ → List ℕ
 comment_of text = unwrap_or (after_mark (codes " ") (rest_after (codes "#") text)) (rest_after
     (codes "#") text)
 
--- the words with which a reporter's summary counts
+-- the words of a count in a reporter's summary
 abbrev pub is_reporters : List ℕ → Bool
 is_reporters word =
     bytes_eq word (codes "tests") || bytes_eq word (codes "suites") || bytes_eq word (codes "pass")

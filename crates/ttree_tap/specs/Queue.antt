@@ -91,7 +91,7 @@ claimed name q = record q { held = q.held ++ claimed_lines false name q.lines; l
 abbrev pub good_added : QueueState → QueueState
 good_added q = record (let_go q) { is_after_failure = false }
 
--- the result of a span in which something failed is returned
+-- the result of a span with a failure is returned
 abbrev pub end_added : Call → QueueState → QueueState
 end_added call q = if length q.opens == 0 then readied call (good_added q) else good_added q
 

@@ -10,11 +10,11 @@ use Rattle.tracing_tree_base.specs.declared.style.Level.TheVariants.{Trace, Debu
 use Rattle.tracing_tree_layer.specs.declared.call.Call.{Call}
 use Rattle.tracing_tree_lines.specs.Lines.Spelled.{is_skipped}
 use Rattle.ttree_source.specs.Source.{Step}
-use Rattle.ttree_source.specs.declared.notes.Lack.{Lack}
-use Rattle.ttree_source.specs.declared.notes.Lack.TheVariants.{Object}
+use Rattle.ttree_source.specs.declared.notes.Problem.{Problem}
+use Rattle.ttree_source.specs.declared.notes.Problem.TheVariants.{Object}
 use Rattle.ttree_source.specs.Counts.{one_more}
 use Rattle.ttree_source.specs.Marks.{after_mark, is_empty}
-use Rattle.ttree_source.specs.Told.{close_call, event_call, message_field, span_call}
+use Rattle.ttree_source.specs.Calls.{close_call, event_call, message_field, span_call}
 use Rattle.ttree_tap.specs.declared.line.Kind.{Kind}
 use Rattle.ttree_tap.specs.declared.line.Kind.TheVariants.{Passing, Failing, Plan, BailOut, Heading as HeadingLine, Comment, Frame, Brace, Output}
 use Rattle.ttree_tap.specs.declared.queue.Role.{Role}
@@ -88,21 +88,21 @@ nothing_run is_failed_only next moment = record {
 
 -- ---- rows
 
-abbrev pub told : Role → Call → TapState → TapState
-told role call s = record s { queue = added role call s.queue }
+abbrev pub emitted : Role → Call → TapState → TapState
+emitted role call s = record s { queue = added role call s.queue }
 
 -- an event in this span
-abbrev pub row_told : Role → Level → List ℕ → List Field → Option Id → TapState → TapState
-row_told role level text rest span s =
-    told role (event_call s.moment level (message_field text ∷ rest) span) s
+abbrev pub row_emitted : Role → Level → List ℕ → List Field → Option Id → TapState → TapState
+row_emitted role level text rest span s =
+    emitted role (event_call s.moment level (message_field text ∷ rest) span) s
 
-abbrev pub line_told : Role → List ℕ → Option Id → TapState → TapState
-line_told role text span s = row_told role Info text [] span s
+abbrev pub line_emitted : Role → List ℕ → Option Id → TapState → TapState
+line_emitted role text span s = row_emitted role Info text [] span s
 
 -- a failure that isn't a result
-abbrev pub error_told : List ℕ → Option Id → TapState → TapState
-error_told text span s =
-    row_told Failure Error text [] span (record s { tally = broken_tally s.tally })
+abbrev pub error_emitted : List ℕ → Option Id → TapState → TapState
+error_emitted text span s =
+    row_emitted Failure Error text [] span (record s { tally = broken_tally s.tally })
 
 -- the lines before a test of this name that belong to it
 abbrev pub lines_claimed : List ℕ → TapState → TapState
@@ -111,7 +111,7 @@ lines_claimed name s = record s { queue = claimed name s.queue }
 -- a new span in this one; its id is the next
 abbrev pub opened : List ℕ → Option Id → TapState → TapState
 opened name parent s =
-    record (told Opening (span_call s.moment name [] parent) (lines_claimed name s)) {
+    record (emitted Opening (span_call s.moment name [] parent) (lines_claimed name s)) {
       next = one_more s.next;
     }
 
@@ -121,7 +121,7 @@ next_after id s = if is_held s.queue then id.0 else s.next
 
 abbrev pub closed : Id → Option Id → TapState → TapState
 closed id parent s =
-    record (told Closing (close_call s.moment id parent) s) { next = next_after id s }
+    record (emitted Closing (close_call s.moment id parent) s) { next = next_after id s }
 
 abbrev pub closed_if : Option Id → Option Id → TapState → TapState
 closed_if (Some id) parent s = closed id parent s
@@ -147,7 +147,7 @@ role_of TodoVerdict span = role_in span
 unfoldable pub finished : Waiting → TapState → TapState
 finished w s =
     closed_if w.span w.parent
-    (row_told (role_of w.verdict w.span) (level_of w.verdict) (end_text w.verdict w.label)
+    (row_emitted (role_of w.verdict w.span) (level_of w.verdict) (end_text w.verdict w.label)
     (end_fields w.reason w.elapsed) (span_or w.span w.parent) (lines_claimed w.label s))
 
 abbrev pub flushed_if : Option Waiting → TapState → TapState
@@ -194,7 +194,7 @@ abbrev pub left_to : List Subtest → TapState → TapState
 left_to [] s = s
 left_to (parent ∷ others) s =
     closed_if s.subtest.span parent.span
-    (error_told (codes "unfinished") s.subtest.span
+    (error_emitted (codes "unfinished") s.subtest.span
     (record s { subtest = parent; outer = others }))
 
 abbrev pub left : TapState → TapState
@@ -224,7 +224,7 @@ deeper_left column s = left_if column (inner_left column s.outer s)
 -- a plan that isn't met is an error
 abbrev pub plan_missed : Option ℕ → ℕ → Option Id → TapState → TapState
 plan_missed (Some count) ran span s =
-    if count == ran then s else error_told (plan_text count ran) span s
+    if count == ran then s else error_emitted (plan_text count ran) span s
 plan_missed None ran span s = s
 
 -- a script needs a plan; a file in prove's output needs one if prove gives no verdict
@@ -241,7 +241,7 @@ is_unjudged Bailed = false
 abbrev pub script_missed : Option ℕ → ℕ → Option Id → TapState → TapState
 script_missed (Some count) ran span s = plan_missed (Some count) ran span s
 script_missed None ran span s =
-    if is_unjudged s.mode then error_told (no_plan_text ran) span s else s
+    if is_unjudged s.mode then error_emitted (no_plan_text ran) span s else s
 
 -- the script or the file ends
 unfoldable pub script_closed : TapState → TapState
@@ -283,14 +283,14 @@ unfoldable pub plan_set : ℕ → TapState → TapState
 plan_set count s = plan_kept count (if is_some s.subtest.planned then restarted s else s)
 
 -- everything is skipped
-unfoldable pub skip_told : List ℕ → TapState → TapState
-skip_told reason s =
-    row_told Good Warn (codes "skip") (end_fields (unescaped reason) []) s.subtest.span s
+unfoldable pub skip_emitted : List ℕ → TapState → TapState
+skip_emitted reason s =
+    row_emitted Good Warn (codes "skip") (end_fields (unescaped reason) []) s.subtest.span s
 
 unfoldable pub plan_taken : ℕ → List ℕ → TapState → TapState
 plan_taken column text s =
     let set : TapState = plan_set (planned text) (deepened column (deeper_left column s)) in
-    if planned text == 0 then skip_told (plan_reason text) set else set
+    if planned text == 0 then skip_emitted (plan_reason text) set else set
 
 -- ---- results
 
@@ -298,7 +298,7 @@ plan_taken column text s =
 abbrev pub missed : ℕ → ℕ → TapState → TapState
 missed first number s =
     if nat_le number first then s
-    else error_told (missing_text first (number - 1)) s.subtest.span s
+    else error_emitted (missing_text first (number - 1)) s.subtest.span s
 
 abbrev pub one_counted : ℕ → TapState → TapState
 one_counted number s =
@@ -339,12 +339,12 @@ waits w s = record s { waiting = Some w }
 abbrev pub counted_waiting : Waiting → TapState → TapState
 counted_waiting w s = waits w (record s { tally = counted_tally w.verdict s.tally })
 
-abbrev pub result_told : Option Id → List ℕ → Mark → List ℕ → TapState → TapState
-result_told span name mark rest s = counted_waiting (waiting_of span name mark rest s) s
+abbrev pub result_emitted : Option Id → List ℕ → Mark → List ℕ → TapState → TapState
+result_emitted span name mark rest s = counted_waiting (waiting_of span name mark rest s) s
 
 -- a result of what runs, which ends the subtest with this span and this name
 unfoldable pub result_in : Option Id → List ℕ → Mark → List ℕ → TapState → TapState
-result_in span name mark rest s = result_told span name mark rest (number_taken (number_of rest) s)
+result_in span name mark rest s = result_emitted span name mark rest (number_taken (number_of rest) s)
 
 -- a result ends the subtest before it
 abbrev pub subtest_ended_to : List Subtest → Mark → List ℕ → TapState → TapState
@@ -435,11 +435,11 @@ reporter_counts s = (length s.outer == 0) && is_some s.subtest.planned
 unfoldable pub comment_taken : List ℕ → TapState → TapState
 comment_taken comment s =
     if reporter_counts s && is_count comment then s
-    else line_told CommentLine (unescaped comment) s.subtest.span s
+    else line_emitted CommentLine (unescaped comment) s.subtest.span s
 
 -- what a test printed, without the column of its lines
 unfoldable pub output_taken : List ℕ → TapState → TapState
-output_taken text s = line_told OutputLine (without_margin s.subtest.column text) s.subtest.span s
+output_taken text s = line_emitted OutputLine (without_margin s.subtest.column text) s.subtest.span s
 
 abbrev pub without_result : TapState → TapState
 without_result s = record s { subtest = record s.subtest { result = None } }
@@ -461,7 +461,7 @@ all_over s = record s { mode = Bailed; subtest = record s.subtest { planned = No
 
 unfoldable pub bailed_out : List ℕ → TapState → TapState
 bailed_out text s =
-    all_over (deeper_left 0 (without_heading (error_told text s.subtest.span s)))
+    all_over (deeper_left 0 (without_heading (error_emitted text s.subtest.span s)))
 
 -- ---- what prove prints around the scripts
 
@@ -484,25 +484,25 @@ abbrev pub judged : TapState → TapState
 judged s = record s { mode = Judged; subtest = record s.subtest { planned = None } }
 
 -- how long a file took is shown as the time of its verdict
-abbrev pub good_told : Level → List ℕ → TapState → TapState
-good_told level text s =
-    row_told End level (good_text (verdict_time text) text) (time_fields (verdict_time text))
+abbrev pub good_emitted : Level → List ℕ → TapState → TapState
+good_emitted level text s =
+    row_emitted End level (good_text (verdict_time text) text) (time_fields (verdict_time text))
     s.subtest.span s
 
 -- a verdict that isn't good is a failure
-abbrev pub verdict_told : Level → List ℕ → TapState → TapState
-verdict_told Error text s = judged (error_told text s.subtest.span s)
-verdict_told Warn text s = judged (good_told Warn text s)
-verdict_told Info text s = judged (good_told Info text s)
-verdict_told Debug text s = judged (good_told Debug text s)
-verdict_told Trace text s = judged (good_told Trace text s)
+abbrev pub verdict_emitted : Level → List ℕ → TapState → TapState
+verdict_emitted Error text s = judged (error_emitted text s.subtest.span s)
+verdict_emitted Warn text s = judged (good_emitted Warn text s)
+verdict_emitted Info text s = judged (good_emitted Info text s)
+verdict_emitted Debug text s = judged (good_emitted Debug text s)
+verdict_emitted Trace text s = judged (good_emitted Trace text s)
 
-abbrev pub tail_told : Option Level → List ℕ → TapState → TapState
-tail_told (Some level) tail s = verdict_told level tail s
-tail_told None tail s = s
+abbrev pub tail_emitted : Option Level → List ℕ → TapState → TapState
+tail_emitted (Some level) tail s = verdict_emitted level tail s
+tail_emitted None tail s = s
 
 abbrev pub tail_taken : List ℕ → TapState → TapState
-tail_taken tail s = tail_told (verdict_level tail) tail s
+tail_taken tail s = tail_emitted (verdict_level tail) tail s
 
 unfoldable pub file_taken : List ℕ → TapState → TapState
 file_taken text s =
@@ -511,7 +511,7 @@ file_taken text s =
 
 unfoldable pub verdict_taken : Level → List ℕ → TapState → TapState
 verdict_taken level text s =
-    verdict_told level (without_end (codes " ") text) (deeper_left 0 (without_heading s))
+    verdict_emitted level (without_end (codes " ") text) (deeper_left 0 (without_heading s))
 
 unfoldable pub summary_begun : TapState → TapState
 summary_begun s = record (script_closed (deeper_left 0 (without_heading s))) { mode = Summary }
@@ -520,7 +520,7 @@ summary_begun s = record (script_closed (deeper_left 0 (without_heading s))) { m
 abbrev pub summary_over : List ℕ → TapState → TapState
 summary_over text s =
     if is_failed_summary text && not (has_failed s.tally)
-    then error_told text None (record s { mode = Over })
+    then error_emitted text None (record s { mode = Over })
     else record s { mode = Over }
 
 -- the lines of the summary aren't drawn
@@ -633,16 +633,16 @@ spanned w s = if is_some w.span then s else opened w.label w.parent s
 -- a line of a block is an event in the span of its result
 unfoldable pub detail_taken : Waiting → List ℕ → TapState → TapState
 detail_taken w text s =
-    waits (with_span w s) (line_told OutputLine text (with_span w s).span (spanned w s))
+    waits (with_span w s) (line_emitted OutputLine text (with_span w s).span (spanned w s))
 
-abbrev pub timed_or_told : Option ℕ → Waiting → List ℕ → TapState → TapState
-timed_or_told (Some nanoseconds) w rest s = timed w nanoseconds s
-timed_or_told None w rest s = detail_taken w rest s
+abbrev pub timed_or_emitted : Option ℕ → Waiting → List ℕ → TapState → TapState
+timed_or_emitted (Some nanoseconds) w rest s = timed w nanoseconds s
+timed_or_emitted None w rest s = detail_taken w rest s
 
 unfoldable pub inside_taken : Waiting → List ℕ → TapState → TapState
 inside_taken w rest s =
     if bytes_eq rest (codes "...") then finished w s
-    else timed_or_told (duration_of rest) w rest s
+    else timed_or_emitted (duration_of rest) w rest s
 
 -- a line that isn't as deep as the block: the block is truncated, unless the line is blank
 unfoldable pub outside_taken : Waiting → List ℕ → TapState → TapState
@@ -721,14 +721,14 @@ abbrev pub tap_takes : TapState → List ℕ → Option Json → Option (Step Ta
 tap_takes s line value =
     Some (handed_out (if is_passed_over line s then s else line_taken line s))
 
-abbrev pub tap_lacks : Option Json → Lack
-tap_lacks value = Object
+abbrev pub tap_problem : Option Json → Problem
+tap_problem value = Object
 
 -- ---- the end
 
 abbrev pub heading_ended_if : Option Heading → TapState → TapState
 heading_ended_if (Some heading) s =
-    error_told (unfinished_text heading.name) s.subtest.span s
+    error_emitted (unfinished_text heading.name) s.subtest.span s
 heading_ended_if None s = s
 
 -- a test whose name was the last line has no result
@@ -745,8 +745,8 @@ brace_ended s = brace_ended_if s.braced (record s { braced = None })
 
 -- an input without a line of TAP is an error, and so is one that ends in prove's summary
 abbrev pub input_ended_in : Mode → TapState → TapState
-input_ended_in Start s = error_told (codes "no line of TAP") None s
-input_ended_in Summary s = error_told (codes "unfinished summary") None s
+input_ended_in Start s = error_emitted (codes "no line of TAP") None s
+input_ended_in Summary s = error_emitted (codes "unfinished summary") None s
 input_ended_in Script s = s
 input_ended_in File s = s
 input_ended_in Judged s = s

@@ -4,7 +4,7 @@ use Rattle.tracing_tree_base.specs.declared.context.Id.{Id}
 use Rattle.tracing_tree_base.specs.declared.field.Field.{Field}
 use Rattle.ttree_source.specs.Counts.{one_more}
 use Rattle.ttree_source.specs.Marks.{after_mark, is_empty}
-use Rattle.ttree_source.specs.Told.{shown}
+use Rattle.ttree_source.specs.Calls.{shown}
 use Rattle.ttree_tap.specs.declared.line.Directive.{Directive}
 use Rattle.ttree_tap.specs.declared.line.Directive.TheVariants.{Absent, Skip, Todo, Time}
 use Rattle.ttree_tap.specs.declared.tally.Verdict.{Verdict}

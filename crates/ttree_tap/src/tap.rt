@@ -34,9 +34,9 @@ use tracing_tree_base::text::Text;
 use tracing_tree_layer::call::Call;
 use tracing_tree_lines::lines::is_skipped;
 use tracing_tree_time::Moment;
-use ttree_source::notes::Lack;
+use ttree_source::calls::event_call;
+use ttree_source::notes::Problem;
 use ttree_source::source::Source;
-use ttree_source::told::event_call;
 use waiting::Waiting;
 
 // Which lines are read.
@@ -169,8 +169,8 @@ impl Tap {
     }
 
     // Hands out the calls.
-    fn told(&mut self) -> Vec<Call>
-        ensures told { result.items ≡ self.old.queue.ready }
+    fn take_calls(&mut self) -> Vec<Call>
+        ensures calls { result.items ≡ self.old.queue.ready }
         ensures rest { self.new ≡ record self.old { queue = record self.old.queue { ready = [] } } }
     {
         self.queue.take()
@@ -414,7 +414,7 @@ fn unfinished_text(alloc: Global, name: &str) -> Result<Text, AllocError>
 }
 
 impl Source for Tap {
-    ghost use Rattle.ttree_tap.specs.Tap.{tap_ended, tap_ends, tap_lacks, tap_takes};
+    ghost use Rattle.ttree_tap.specs.Tap.{tap_ended, tap_ends, tap_problem, tap_takes};
 
     ghost takes = { tap_takes };
 
@@ -422,7 +422,7 @@ impl Source for Tap {
 
     ghost ended = { tap_ended };
 
-    ghost lacks = { tap_lacks };
+    ghost value_problem = { tap_problem };
 
     fn reads_values(&self) -> bool {
         false
@@ -437,16 +437,16 @@ impl Source for Tap {
         if !self.is_passed_over(line) {
             self.take_line(line)?;
         }
-        Ok(Some(self.told()))
+        Ok(Some(self.take_calls()))
     }
 
-    fn lack(_value: Option<&Value<'_>>) -> Lack {
-        Lack::Object
+    fn problem(_value: Option<&Value<'_>>) -> Problem {
+        Problem::Object
     }
 
     fn end(&mut self, alloc: Global) -> Result<Vec<Call>, AllocError> {
         self.end_all()?;
-        let mut calls = self.told();
+        let mut calls = self.take_calls();
         calls.push(self.tally_call(alloc)?)?;
         Ok(calls)
     }

@@ -8,11 +8,12 @@ use Rattle.std.proofs.KnownBytes.{Appends-kept}
 use Rattle.std.specs.Io.KnownBytes.{Keeps}
 use Rattle.std.specs.Str.{chars, encode_utf8_all, is_utf8}
 use Rattle.std.specs.Str.Lossy.{utf8_lossy}
-use Rattle.ttree_source.specs.Told.{is_escaped, shown, shown_char}
-use Rattle.ttree_terminal.specs.declared.columns.Place.{Place}
+use Rattle.ttree_source.specs.Calls.{is_escaped, shown, shown_char}
+use Rattle.ttree_columns.proofs.Fitted.{fitting_part}
+use Rattle.ttree_columns.specs.Columns.{fitting, is_wider, start}
 use Rattle.ttree_terminal.specs.declared.shaping.Shaping.{Shaping}
 use Rattle.ttree_terminal.specs.Plain.{is_c1, is_control, plain_after, GrowsPlain}
-use Rattle.ttree_terminal.specs.Columns.{cut_at, cut_mark, fitting, has_byte, is_wider, kept, line_end, past, reset, start}
+use Rattle.ttree_terminal.specs.Columns.{cut_at, cut_mark, has_byte, kept, line_end, reset}
 use Rattle.ttree_terminal.specs.Lines.{cut_to, ended, ended_by, escaped, held_after, shaped}
 use Rattle.ttree_terminal.specs.Writing.{WritesOrPart}
 
@@ -159,15 +160,6 @@ all_shown [] = refl
 all_shown (c ∷ cs) = joined 194 (shown_char c) (flat_map shown_char cs) (one_shown c) (all_shown cs)
 
 -- ---- lines
-
-fitting_part : (width : ℕ) (place : Place) (cs : List ℕ) → (rest : List ℕ) × (cs ≡ fitting width place cs ++ rest)
-fitting_part width place [] = ([], refl)
-fitting_part width place (c ∷ cs) =
-    one (nat_lt (past place c).column width) c cs (fitting width (past place c) cs) (fitting_part width (past place c) cs)
-  where
-    one : (test : Bool) (c : ℕ) (cs more : List ℕ) → ((rest : List ℕ) × (cs ≡ more ++ rest)) → (rest : List ℕ) × ((c ∷ cs) ≡ (if test then c ∷ more else []) ++ rest)
-    one true c cs more (rest, e) = (rest, ap (λ l. c ∷ l) e)
-    one false c cs more h = (c ∷ cs, refl)
 
 kept_plain : (width : ℕ) (line : List ℕ) → IsUtf8 line → plain_after 194 line ≡ true → plain_after 194 (kept width line) ≡ true
 kept_plain width line text h =

@@ -1,7 +1,7 @@
 -- Lines as they are written.
 use Rattle.std.specs.Prelude.{ℕ, ◌==◌, if◌then◌else◌, List, [], ◌∷◌, ◌++◌, Option, Some, None, Bool, ◌||◌, is_some}
 use Rattle.std.specs.Str.Lossy.{utf8_lossy}
-use Rattle.ttree_source.specs.Told.{shown}
+use Rattle.ttree_source.specs.Calls.{shown}
 use Rattle.ttree_terminal.specs.declared.shaping.Shaping.{Shaping}
 use Rattle.ttree_terminal.specs.Plain.{plain_after}
 use Rattle.ttree_terminal.specs.Columns.{cut_at}

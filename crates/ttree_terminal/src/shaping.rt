@@ -8,7 +8,7 @@ use crate::columns::cut;
 use crate::plain::is_plain;
 use std::alloc::{AllocError, Global};
 use tracing_tree_base::text::Text;
-use ttree_source::told::shown;
+use ttree_source::calls::shown;
 
 /// What is done to each line.
 #[derive(Clone, Copy, Debug, PartialEq, Eq)]

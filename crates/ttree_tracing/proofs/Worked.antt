@@ -4,8 +4,8 @@ use Rattle.tracing_tree_base.specs.declared.context.Moment.{Moment}
 use Rattle.tracing_tree_spans.specs.Registry.Ids.{id_of}
 use Rattle.tracing_tree_base.specs.declared.field.Field.{Field}
 use Rattle.tracing_tree_base.specs.declared.style.Level.TheVariants.{Error, Info}
-use Rattle.ttree_source.specs.Told.{close_call, event_call, message_field, record_call, span_call}
-use Rattle.ttree_tracing.specs.Tracing.{TracingState, ended, nothing_open, parent_found, plain_told, reached, tracing_ends}
+use Rattle.ttree_source.specs.Calls.{close_call, event_call, message_field, record_call, span_call}
+use Rattle.ttree_tracing.specs.Tracing.{TracingState, ended, nothing_open, parent_found, plain_emitted, reached, tracing_ends}
 use Rattle.ttree_tracing.specs.TracingLine.{bare_thread, kind_of}
 use Rattle.ttree_tracing.specs.declared.tracing.line.Listed.{Listed}
 use Rattle.ttree_tracing.specs.declared.tracing.line.Kind.TheVariants.{Event, Enter, New}
@@ -16,8 +16,8 @@ new_opens_a_span = refl
 pub new_by_chance : kind_of (record { name = codes "message"; value = codes "new" } ∷ []) true ≡ Event
 new_by_chance = refl
 
-pub enter_is_told_in_the_span : kind_of (record { name = codes "message"; value = codes "enter" } ∷ []) true ≡ Enter
-enter_is_told_in_the_span = refl
+pub enter_is_emitted_in_the_span : kind_of (record { name = codes "message"; value = codes "enter" } ∷ []) true ≡ Enter
+enter_is_emitted_in_the_span = refl
 
 pub a_thread_by_its_number : bare_thread (codes "ThreadId(12)") ≡ codes "12"
 a_thread_by_its_number = refl
@@ -80,10 +80,10 @@ module _ (moment : Moment) where
   pub an_event_is_in_the_parent_that_it_names : (parent_found [] order in_order).at ≡ Some (id_of 1)
   an_event_is_in_the_parent_that_it_names = refl
 
-  pub a_panic_is_an_error_in_the_last_span : (plain_told (codes "panic: a\r") in_order).calls
+  pub a_panic_is_an_error_in_the_last_span : (plain_emitted (codes "panic: a\r") in_order).calls
       ≡ event_call moment Error (message_field (codes "panic: a") ∷ []) (Some (id_of 1)) ∷ []
   a_panic_is_an_error_in_the_last_span = refl
 
-  pub after_its_span_it_is_at_the_root : (plain_told (codes "a") (record in_order { live = [] })).calls
+  pub after_its_span_it_is_at_the_root : (plain_emitted (codes "a") (record in_order { live = [] })).calls
       ≡ event_call moment Info (message_field (codes "a") ∷ []) None ∷ []
   after_its_span_it_is_at_the_root = refl

@@ -13,12 +13,12 @@ use Rattle.tracing_tree_layer.specs.declared.call.Call.{Call}
 use Rattle.tracing_tree_layer.specs.declared.call.Call.TheVariants.{Record as CallRecord}
 use Rattle.tracing_tree_lines.specs.Lines.Spelled.{is_skipped}
 use Rattle.ttree_source.specs.Source.{Step}
-use Rattle.ttree_source.specs.declared.notes.Lack.{Lack}
-use Rattle.ttree_source.specs.declared.notes.Lack.TheVariants.{Object, Level as NoLevel}
+use Rattle.ttree_source.specs.declared.notes.Problem.{Problem}
+use Rattle.ttree_source.specs.declared.notes.Problem.TheVariants.{Object, Level as NoLevel}
 use Rattle.ttree_source.specs.Counts.{one_more}
 use Rattle.ttree_source.specs.Values.{text_at}
 use Rattle.ttree_source.specs.Moments.{moment_after}
-use Rattle.ttree_source.specs.Told.{all_on_thread, close_call, event_call, record_call, span_call}
+use Rattle.ttree_source.specs.Calls.{all_on_thread, close_call, event_call, record_call, span_call}
 use Rattle.ttree_source.specs.Levels.{level_in}
 use Rattle.ttree_source.specs.Traces.{plain_event}
 use Rattle.ttree_tracing.specs.TracingLine.{kind_in, label_in, line_fields, may_be, parent_in, path_in, span_in, thread_in}
@@ -49,11 +49,11 @@ nothing_open next moment = record {
   calls = [];
 }
 
-abbrev pub told : Call → TracingState → TracingState
-told call s = record s { calls = s.calls ++ call ∷ [] }
+abbrev pub emitted : Call → TracingState → TracingState
+emitted call s = record s { calls = s.calls ++ call ∷ [] }
 
-abbrev pub event_told : Level → List Field → Option Id → TracingState → TracingState
-event_told level fields above s = told (event_call s.moment level fields above) s
+abbrev pub event_emitted : Level → List Field → Option Id → TracingState → TracingState
+event_emitted level fields parent s = emitted (event_call s.moment level fields parent) s
 
 -- ---- which span is meant
 
@@ -64,11 +64,11 @@ same_above _ _ = false
 
 -- a live span is nested in the one above, and an entry may be it
 abbrev pub is_child : Option Id → Listed → Live → Bool
-is_child above listed one = same_above one.above above && may_be listed one.first
+is_child parent listed one = same_above one.parent parent && may_be listed one.first
 
 -- a live span is nested in the one above, and opened on this thread
 abbrev pub is_child_of_thread : Option Id → List ℕ → Live → Bool
-is_child_of_thread above thread one = same_above one.above above && bytes_eq one.thread thread
+is_child_of_thread parent thread one = same_above one.parent parent && bytes_eq one.thread thread
 
 abbrev pub id_in : Live → Id
 id_in one = one.id
@@ -78,7 +78,7 @@ abbrev pub newest : (Live → Bool) → List Live → Option Id
 newest is live = option_map id_in (find is (reverse live))
 
 abbrev pub child : List Live → Option Id → Listed → Option Id
-child live above listed = newest (is_child above listed) live
+child live parent listed = newest (is_child parent listed) live
 
 abbrev pub may_be_first : Listed → Live → Bool
 may_be_first listed one = may_be listed one.first
@@ -87,7 +87,7 @@ abbrev pub anywhere : List Live → Listed → Option Id
 anywhere live listed = newest (may_be_first listed) live
 
 abbrev pub child_of_thread : List Live → Option Id → List ℕ → Option Id
-child_of_thread live above thread = newest (is_child_of_thread above thread) live
+child_of_thread live parent thread = newest (is_child_of_thread parent thread) live
 
 -- the span of an entry in the one above, otherwise one anywhere
 abbrev pub id_or : Option Id → Option Id → Option Id
@@ -95,7 +95,7 @@ id_or (Some id) other = Some id
 id_or None other = other
 
 abbrev pub found : List Live → Option Id → Listed → Option Id
-found live above listed = id_or (child live above listed) (anywhere live listed)
+found live parent listed = id_or (child live parent listed) (anywhere live listed)
 
 abbrev pub is_span : Id → Live → Bool
 is_span id one = same_id one.id id
@@ -145,7 +145,7 @@ with_late id late one = if same_id one.id id then record one { late = one.late +
 -- these fields are recorded, if there are any
 abbrev pub learned : Id → List Field → TracingState → TracingState
 learned id [] s = s
-learned id (field ∷ others) s = record (told (record_call id (field ∷ others)) s) {
+learned id (field ∷ others) s = record (emitted (record_call id (field ∷ others)) s) {
   live = map (with_late id (field ∷ others)) s.live;
 }
 
@@ -157,12 +157,12 @@ met None listed s = s
 -- ---- closes
 
 abbrev pub is_in : Option Id → List Id → Bool
-is_in (Some above) gone = list_any (same_id above) gone
+is_in (Some parent) gone = list_any (same_id parent) gone
 is_in None gone = false
 
 -- a span is one of these or is nested in one
 abbrev pub goes_with : Live → List Id → Bool
-goes_with one gone = list_any (same_id one.id) gone || is_in one.above gone
+goes_with one gone = list_any (same_id one.id) gone || is_in one.parent gone
 
 -- the spans that closed, and what is known then
 pub record Parting : Type 0 where
@@ -175,7 +175,7 @@ parted_one one gone s =
     if goes_with one gone
     then record {
       gone = gone ++ one.id ∷ [];
-      state = told (close_call s.moment one.id one.above) s;
+      state = emitted (close_call s.moment one.id one.parent) s;
     }
     else record { gone = gone; state = record s { live = s.live ++ one ∷ [] } }
 
@@ -197,36 +197,36 @@ pub record Place : Type 0 where
   pub state : TracingState
 
 abbrev pub lives : Bool → List ℕ → Listed → Option Id → Id → Live
-lives is_told thread listed above id = record {
+lives is_emitted thread listed parent id = record {
   id = id;
-  above = above;
+  parent = parent;
   first = listed;
   late = [];
   thread = thread;
-  is_told = is_told;
+  is_emitted = is_emitted;
 }
 
 -- a span opens
 abbrev pub opened : Bool → List ℕ → Listed → Option Id → TracingState → Place
-opened told_by_new thread listed above s = record {
+opened emitted_by_new thread listed parent s = record {
   at = Some (id_of s.next);
-  state = record (told (span_call s.moment listed.name listed.fields above) s) {
+  state = record (emitted (span_call s.moment listed.name listed.fields parent) s) {
     next = one_more s.next;
-    live = s.live ++ (lives told_by_new thread listed above (id_of s.next)) ∷ [];
+    live = s.live ++ (lives emitted_by_new thread listed parent (id_of s.next)) ∷ [];
   };
 }
 
 -- no `new` reported a span
-abbrev pub is_untold : Live → Bool
-is_untold one = not one.is_told
+abbrev pub is_pending : Live → Bool
+is_pending one = not one.is_emitted
 
 -- how many of these spans were reported by no `new`, counted on from a number
-abbrev pub with_untold : Live → ℕ → ℕ
-with_untold one count = if one.is_told then count else one_more count
+abbrev pub with_pending : Live → ℕ → ℕ
+with_pending one count = if one.is_emitted then count else one_more count
 
-abbrev pub untold_from : ℕ → List Live → ℕ
-untold_from count [] = count
-untold_from count (one ∷ others) = untold_from (with_untold one count) others
+abbrev pub pending_from : ℕ → List Live → ℕ
+pending_from count [] = count
+pending_from count (one ∷ others) = pending_from (with_pending one count) others
 
 abbrev pub without : Option ℕ → List Live → List Live
 without (Some place) live = if nat_lt place (length live) then remove live place else live
@@ -236,28 +236,28 @@ without None live = live
 -- `depth` of a line. Nothing is drawn: it opens again with the next line that lists it.
 abbrev pub spared : ℕ → TracingState → TracingState
 spared depth s =
-    if nat_lt (untold_from 0 s.live - 64) depth then s
-    else record s { live = without (position is_untold s.live) s.live }
+    if nat_lt (pending_from 0 s.live - 64) depth then s
+    else record s { live = without (position is_pending s.live) s.live }
 
 -- A span opens that no `new` reported. Nothing closes: the log never said so.
 abbrev pub begun : ℕ → List ℕ → Listed → Option Id → TracingState → Place
-begun depth thread listed above s = opened false thread listed above (spared depth s)
+begun depth thread listed parent s = opened false thread listed parent (spared depth s)
 
 abbrev pub at_or_begun : Option Id → ℕ → List ℕ → Listed → Option Id → TracingState → Place
-at_or_begun (Some id) depth thread listed above s = record { at = Some id; state = s }
-at_or_begun None depth thread listed above s = begun depth thread listed above s
+at_or_begun (Some id) depth thread listed parent s = record { at = Some id; state = s }
+at_or_begun None depth thread listed parent s = begun depth thread listed parent s
 
 -- the span of an entry in the one above
 abbrev pub stepped : ℕ → List ℕ → Listed → Option Id → TracingState → Place
-stepped depth thread listed above s =
-    let id = child s.live above listed in
-    at_or_begun id depth thread listed above (met id listed s)
+stepped depth thread listed parent s =
+    let id = child s.live parent listed in
+    at_or_begun id depth thread listed parent (met id listed s)
 
 -- the last of these spans of a line that lists `depth` of them, each in the one before it
 abbrev pub reached : ℕ → List ℕ → List Listed → Option Id → TracingState → Place
-reached depth thread [] above s = record { at = above; state = s }
-reached depth thread (listed ∷ others) above s =
-    let next = stepped depth thread listed above s in
+reached depth thread [] parent s = record { at = parent; state = s }
+reached depth thread (listed ∷ others) parent s =
+    let next = stepped depth thread listed parent s in
     reached depth thread others next.at next.state
 
 -- the newest span that an entry may be; a root opens if there is no such span
@@ -278,24 +278,24 @@ located kind value s =
     parent_or (parent_in kind value) thread (reached (length path) thread path None s)
 
 -- the fields of a span's close, if there is more to show than the message
-abbrev pub times_told : Level → List Field → Id → TracingState → TracingState
-times_told level fields id s =
-    if nat_lt 1 (length fields) then event_told level fields (Some id) s else s
+abbrev pub times_emitted : Level → List Field → Id → TracingState → TracingState
+times_emitted level fields id s =
+    if nat_lt 1 (length fields) then event_emitted level fields (Some id) s else s
 
 -- a span ends: an event shows its times and its late fields, if there are any, and it closes
 abbrev pub ended : Level → List Field → Id → TracingState → TracingState
-ended level fields id s = closed id (times_told level (fields ++ late_of id s.live) id s)
+ended level fields id s = closed id (times_emitted level (fields ++ late_of id s.live) id s)
 
 abbrev pub at_or_opened : Option Id → List ℕ → Listed → Option Id → TracingState → Place
-at_or_opened (Some id) thread listed above s = record { at = Some id; state = s }
-at_or_opened None thread listed above s = opened false thread listed above s
+at_or_opened (Some id) thread listed parent s = record { at = Some id; state = s }
+at_or_opened None thread listed parent s = opened false thread listed parent s
 
 -- The span of an entry, whose close is reported: the one in the span above, otherwise one
 -- elsewhere. It opens if there is no such span.
 abbrev pub closing : List ℕ → Listed → Option Id → TracingState → Place
-closing thread listed above s =
-    let id = found s.live above listed in
-    at_or_opened id thread listed above (met id listed s)
+closing thread listed parent s =
+    let id = found s.live parent listed in
+    at_or_opened id thread listed parent (met id listed s)
 
 abbrev pub ended_if : Level → List Field → Option Id → TracingState → TracingState
 ended_if level fields (Some id) s = ended level fields id s
@@ -303,22 +303,22 @@ ended_if level fields None s = s
 
 abbrev pub close_of : Level → List Field → Option Listed → List ℕ → Option Id → TracingState →
     TracingState
-close_of level fields (Some listed) thread above s =
-    let place = closing thread listed above s in
+close_of level fields (Some listed) thread parent s =
+    let place = closing thread listed parent s in
     ended_if level fields place.at place.state
-close_of level fields None thread above s =
-    ended_if level fields (child_of_thread s.live above thread) s
+close_of level fields None thread parent s =
+    ended_if level fields (child_of_thread s.live parent thread) s
 
-abbrev pub close_told : Level → List Field → Json → Option Id → TracingState → TracingState
-close_told level fields value above s =
-    close_of level fields (span_in value) (thread_in value) above s
+abbrev pub close_emitted : Level → List Field → Json → Option Id → TracingState → TracingState
+close_emitted level fields value parent s =
+    close_of level fields (span_in value) (thread_in value) parent s
 
 abbrev pub new_of : Option Listed → List ℕ → Option Id → TracingState → TracingState
-new_of (Some listed) thread above s = (opened true thread listed above s).state
-new_of None thread above s = s
+new_of (Some listed) thread parent s = (opened true thread listed parent s).state
+new_of None thread parent s = s
 
-abbrev pub new_told : Json → Option Id → TracingState → TracingState
-new_told value above s = new_of (span_in value) (thread_in value) above s
+abbrev pub new_emitted : Json → Option Id → TracingState → TracingState
+new_emitted value parent s = new_of (span_in value) (thread_in value) parent s
 
 -- ---- lines
 
@@ -335,11 +335,11 @@ recorded_in at calls = flat_map (recorded_of at) calls
 -- for the first time isn't lost if no line closes the span.
 abbrev pub acted_as : Kind → Level → List Field → Json → Place → TracingState
 acted_as Event level fields value place =
-    event_told level (fields ++ recorded_in place.at place.state.calls) place.at place.state
-acted_as New level fields value place = new_told value place.at place.state
+    event_emitted level (fields ++ recorded_in place.at place.state.calls) place.at place.state
+acted_as New level fields value place = new_emitted value place.at place.state
 acted_as Enter level fields value place = place.state
 acted_as Exit level fields value place = place.state
-acted_as Close level fields value place = close_told level fields value place.at place.state
+acted_as Close level fields value place = close_emitted level fields value place.at place.state
 
 abbrev pub arrived : Place → Place
 arrived place = record place { state = record place.state { at = place.at } }
@@ -369,20 +369,20 @@ takes_value value s = option_map (λ level. handed_out (acted level value (place
     (level_in value)
 
 -- a line that isn't a JSON object is an event in the last span of the line before it
-abbrev pub plain_told : List ℕ → TracingState → TracingState
-plain_told line s =
-    if is_skipped line then s else told (plain_event s.moment line (if_live s.at s.live)) s
+abbrev pub plain_emitted : List ℕ → TracingState → TracingState
+plain_emitted line s =
+    if is_skipped line then s else emitted (plain_event s.moment line (if_live s.at s.live)) s
 
 -- what a line means
 abbrev pub tracing_takes : TracingState → List ℕ → Option Json → Option (Step TracingState)
-tracing_takes s line None = Some (handed_out (plain_told line s))
+tracing_takes s line None = Some (handed_out (plain_emitted line s))
 tracing_takes s line (Some value) =
     if is_some (as_object value) then takes_value value s
-    else Some (handed_out (plain_told line s))
+    else Some (handed_out (plain_emitted line s))
 
-abbrev pub tracing_lacks : Option Json → Lack
-tracing_lacks None = Object
-tracing_lacks (Some value) = NoLevel
+abbrev pub tracing_problem : Option Json → Problem
+tracing_problem None = Object
+tracing_problem (Some value) = NoLevel
 
 -- Nothing closes at the end: a row that closes a span says that the log closed it.
 abbrev pub tracing_ends : TracingState → List Call

@@ -8,7 +8,7 @@ use Rattle.tracing_tree_base.specs.declared.field.Field.{Field}
 use Rattle.ttree_source.specs.Marks.{after_mark}
 use Rattle.ttree_source.specs.Fields.{event_fields, fields_besides}
 use Rattle.ttree_source.specs.Values.{array_at, text_at}
-use Rattle.ttree_source.specs.Told.{shown}
+use Rattle.ttree_source.specs.Calls.{shown}
 use Rattle.ttree_tracing.specs.declared.tracing.line.Listed.{Listed}
 use Rattle.ttree_tracing.specs.declared.tracing.line.Kind.{Kind}
 use Rattle.ttree_tracing.specs.declared.tracing.line.Kind.TheVariants.{Event as AnEvent, New, Enter, Exit, Close}
@@ -115,7 +115,7 @@ names_span value =
 abbrev pub is_message : Field → List ℕ → Bool
 is_message field text = bytes_eq field.name (codes "message") && bytes_eq field.value text
 
--- the fields with which a span's close is reported
+-- the fields of the event that reports a close
 abbrev pub is_timed_close : List Field → Bool
 is_timed_close (message ∷ busy ∷ idle ∷ []) =
     is_message message (codes "close") && bytes_eq busy.name (codes "time.busy")

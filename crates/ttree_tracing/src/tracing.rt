@@ -4,7 +4,7 @@ ghost use Rattle.std.specs.Prelude.{◌≡◌, ◌++◌, ◌∷◌, [], IfOk, No
 ghost use Rattle.json.specs.Value.{value_view};
 ghost use Rattle.std.specs.List.{list_any};
 ghost use Rattle.tracing_tree_spans.specs.Registry.Ids.{same_id};
-ghost use Rattle.ttree_tracing.specs.Tracing.{acted, anywhere, begun, child, child_of_thread, close_told, closed, closing, ended, event_told, found, goes_with, if_live, if_unknown, is_child, is_child_of_thread, is_in, is_known, is_untold, late_in, late_of, learned, located, met, new_told, nothing_open, opened, parent_found, parted, parted_one, placed, plain_told, reached, recorded_in, recorded_of, same_above, span_of, spared, stepped, unknown_in, untold_from, with_late, with_untold};
+ghost use Rattle.ttree_tracing.specs.Tracing.{acted, anywhere, begun, child, child_of_thread, close_emitted, closed, closing, ended, event_emitted, found, goes_with, if_live, if_unknown, is_child, is_child_of_thread, is_in, is_known, is_pending, late_in, late_of, learned, located, met, new_emitted, nothing_open, opened, parent_found, parted, parted_one, placed, plain_emitted, reached, recorded_in, recorded_of, same_above, span_of, spared, stepped, unknown_in, pending_from, with_late, with_pending};
 
 mod line;
 
@@ -22,11 +22,11 @@ use tracing_tree_base::text::Text;
 use tracing_tree_layer::call::Call;
 use tracing_tree_lines::lines::is_skipped;
 use tracing_tree_time::Moment;
+use ttree_source::calls::{all_on_thread, close_call, event_call, record_call, span_call};
 use ttree_source::level::level_in;
 use ttree_source::moments::moment_after;
-use ttree_source::notes::Lack;
+use ttree_source::notes::Problem;
 use ttree_source::source::Source;
-use ttree_source::told::{all_on_thread, close_call, event_call, record_call, span_call};
 use ttree_source::traces::plain_event;
 use ttree_source::values::{is_object, text_at};
 
@@ -35,7 +35,7 @@ use ttree_source::values::{is_object, text_at};
 struct Live {
     id: Id,
     // The parent's span, when it opened.
-    above: Option<Id>,
+    parent: Option<Id>,
     // The span as first listed.
     first: Listed,
     // The fields that were recorded later, in the order of the lines that listed them.
@@ -43,7 +43,7 @@ struct Live {
     // The thread of the line that opened it. Empty if the line doesn't have one.
     thread: Text,
     // Whether a `new` reported it.
-    is_told: bool,
+    is_emitted: bool,
 }
 
 // At most this many spans that weren't reported by a `new` are remembered, in addition to those of
@@ -110,8 +110,8 @@ impl Tracing {
     }
 
     // Returns the calls, and empties the list.
-    fn told(&mut self) -> Vec<Call>
-        ensures told { result.items ≡ self.old.calls }
+    fn take_calls(&mut self) -> Vec<Call>
+        ensures calls { result.items ≡ self.old.calls }
         ensures rest { self.new ≡ record self.old { calls = [] } }
     {
         mem::replace(&mut self.calls, Vec::new(self.alloc))
@@ -126,10 +126,10 @@ impl Tracing {
         let at = self.locate(kind, value)?;
         self.at = at;
         match kind {
-            Kind::Event => self.tell_event(level, fields, at),
+            Kind::Event => self.emit_event(level, fields, at),
             Kind::Enter | Kind::Exit => Ok(()),
             Kind::New => self.open_named(value, at),
-            Kind::Close => self.close_told(level, fields, value, at),
+            Kind::Close => self.close_emitted(level, fields, value, at),
         }
     }
 
@@ -180,25 +180,25 @@ impl Tracing {
         Ok(at)
     }
 
-    // Returns the span of this entry in the parent `above`. Opens it unless it is live.
+    // Returns the span of this entry in the parent `parent`. Opens it unless it is live.
     fn step(
         &mut self,
         depth: usize,
         listed: Listed,
         thread: &str,
-        above: Option<Id>,
+        parent: Option<Id>,
     ) -> Result<Id, AllocError>
-        ensures { IfOk result (λ id. stepped depth thread.now listed above self.old ≡ record {
+        ensures { IfOk result (λ id. stepped depth thread.now listed parent self.old ≡ record {
           at =
               Some id;
           state = self.new;
         }) }
     {
-        let id = child(self.live.as_slice(), above, &listed);
+        let id = child(self.live.as_slice(), parent, &listed);
         self.meet(id, &listed)?;
         match id {
             Some(id) => Ok(id),
-            None => self.begin(depth, listed, thread, above),
+            None => self.begin(depth, listed, thread, parent),
         }
     }
 
@@ -234,26 +234,26 @@ impl Tracing {
         depth: usize,
         listed: Listed,
         thread: &str,
-        above: Option<Id>,
+        parent: Option<Id>,
     ) -> Result<Id, AllocError>
-        ensures { IfOk result (λ id. begun depth thread.now listed above self.old ≡ record {
+        ensures { IfOk result (λ id. begun depth thread.now listed parent self.old ≡ record {
           at =
               Some id;
           state = self.new;
         }) }
     {
         self.spare(depth);
-        self.open(false, listed, thread, above)
+        self.open(false, listed, thread, parent)
     }
 
     // Forgets the oldest span that wasn't reported by a `new`, if there are too many of them.
     fn spare(&mut self, depth: usize)
         ensures { self.new ≡ spared depth self.old }
     {
-        if untold_count(self.live.as_slice()).saturating_sub(KNOWN) < depth {
+        if pending_count(self.live.as_slice()).saturating_sub(KNOWN) < depth {
             return;
         }
-        match oldest_untold(self.live.as_slice()) {
+        match oldest_pending(self.live.as_slice()) {
             Some(place) if place < self.live.len() => forget(self.live.remove(place)),
             _ => {}
         }
@@ -262,29 +262,35 @@ impl Tracing {
     // Opens a span.
     fn open(
         &mut self,
-        is_told: bool,
+        is_emitted: bool,
         listed: Listed,
         thread: &str,
-        above: Option<Id>,
+        parent: Option<Id>,
     ) -> Result<Id, AllocError>
-        ensures { IfOk result (λ id. opened is_told thread.now listed above self.old ≡ record {
+        ensures { IfOk result (λ id. opened is_emitted thread.now listed parent self.old ≡ record {
           at
               = Some id;
           state = self.new;
         }) }
     {
         let fields = listed.fields.clone()?;
-        let call = span_call(self.alloc, self.moment, listed.name.as_str(), fields, above)?;
+        let call = span_call(
+            self.alloc,
+            self.moment,
+            listed.name.as_str(),
+            fields,
+            parent,
+        )?;
         self.calls.push(call)?;
         let id = Id(self.next);
         let thread = Text::from_str(self.alloc, thread)?;
         self.live.push(Live {
             id,
-            above,
+            parent,
             first: listed,
             late: Fields::new(self.alloc),
             thread,
-            is_told,
+            is_emitted,
         })?;
         self.next = self.next.saturating_add(1);
         Ok(id)
@@ -292,9 +298,9 @@ impl Tracing {
 
     // Records the event of a line in its span. What the line records of that span comes last among
     // its fields.
-    fn tell_event(&mut self, level: Level, fields: Fields, at: Option<Id>) -> Result<(), AllocError>
+    fn emit_event(&mut self, level: Level, fields: Fields, at: Option<Id>) -> Result<(), AllocError>
         ensures { OnOk result (self.new
-            ≡ event_told level (fields ++ recorded_in at self.old.calls) at self.old) }
+            ≡ event_emitted level (fields ++ recorded_in at self.old.calls) at self.old) }
     {
         let mut fields = fields;
         fields.append(recorded_in(self.alloc, at, self.calls.as_slice())?)?;
@@ -306,61 +312,66 @@ impl Tracing {
         &mut self,
         level: Level,
         fields: Fields,
-        above: Option<Id>,
+        parent: Option<Id>,
     ) -> Result<(), AllocError>
-        ensures { OnOk result (self.new ≡ event_told level fields above self.old) }
+        ensures { OnOk result (self.new ≡ event_emitted level fields parent self.old) }
     {
-        let call = event_call(self.alloc, self.moment, level, fields, above)?;
+        let call = event_call(self.alloc, self.moment, level, fields, parent)?;
         Ok(self.calls.push(call)?)
     }
 
     // Opens the span that a line names.
-    fn open_named(&mut self, value: &Value<'_>, above: Option<Id>) -> Result<(), AllocError>
-        ensures { OnOk result (self.new ≡ new_told (value_view value.now) above self.old) }
+    fn open_named(&mut self, value: &Value<'_>, parent: Option<Id>) -> Result<(), AllocError>
+        ensures { OnOk result (self.new ≡ new_emitted (value_view value.now) parent self.old) }
     {
         if let Some(listed) = span_in(self.alloc, value)? {
-            self.open(true, listed, thread_in(value), above)?;
+            self.open(true, listed, thread_in(value), parent)?;
         }
         Ok(())
     }
 
     // Closes the span whose close a line reports.
-    fn close_told(
+    fn close_emitted(
         &mut self,
         level: Level,
         fields: Fields,
         value: &Value<'_>,
-        above: Option<Id>,
+        parent: Option<Id>,
     ) -> Result<(), AllocError>
-        ensures { OnOk result (self.new ≡ close_told level fields (value_view value.now) above
+        ensures { OnOk result (self.new ≡ close_emitted level fields (value_view value.now) parent
             self.old) }
     {
         match span_in(self.alloc, value)? {
             Some(listed) => {
-                let id = self.closing(listed, thread_in(value), above)?;
+                let id = self.closing(listed, thread_in(value), parent)?;
                 self.end(level, fields, id)
             }
-            None => match child_of_thread(self.live.as_slice(), above, thread_in(value)) {
+            None => match child_of_thread(self.live.as_slice(), parent, thread_in(value)) {
                 Some(id) => self.end(level, fields, id),
                 None => Ok(()),
             },
         }
     }
 
-    // Returns the span of this entry, whose close is reported: the one in the parent `above`,
+    // Returns the span of this entry, whose close is reported: the one in the parent `parent`,
     // otherwise one elsewhere. Opens it if it isn't live.
-    fn closing(&mut self, listed: Listed, thread: &str, above: Option<Id>) -> Result<Id, AllocError>
-        ensures { IfOk result (λ id. closing thread.now listed above self.old ≡ record {
+    fn closing(
+        &mut self,
+        listed: Listed,
+        thread: &str,
+        parent: Option<Id>,
+    ) -> Result<Id, AllocError>
+        ensures { IfOk result (λ id. closing thread.now listed parent self.old ≡ record {
           at = Some
               id;
           state = self.new;
         }) }
     {
-        let id = found(self.live.as_slice(), above, &listed);
+        let id = found(self.live.as_slice(), parent, &listed);
         self.meet(id, &listed)?;
         match id {
             Some(id) => Ok(id),
-            None => self.open(false, listed, thread, above),
+            None => self.open(false, listed, thread, parent),
         }
     }
 
@@ -380,7 +391,7 @@ impl Tracing {
     // Takes a line that isn't a JSON object, as an event in the last span of the line before it. A
     // blank one means nothing.
     fn take_plain(&mut self, line: &str) -> Result<(), AllocError>
-        ensures { OnOk result (self.new ≡ plain_told line.now self.old) }
+        ensures { OnOk result (self.new ≡ plain_emitted line.now self.old) }
     {
         if is_skipped(line.as_bytes()) {
             return Ok(());
@@ -428,7 +439,8 @@ impl Tracing {
         if !goes_with(&one, gone.as_slice()) {
             return Ok(self.live.push(one)?);
         }
-        self.calls.push(close_call(self.moment, one.id, one.above))?;
+        self.calls
+            .push(close_call(self.moment, one.id, one.parent))?;
         Ok(gone.push(one.id)?)
     }
 }
@@ -437,14 +449,14 @@ impl Tracing {
 fn goes_with(one: &Live, gone: &[Id]) -> bool
     ensures { result ≡ goes_with one.now gone.now }
 {
-    contains(gone, one.id) || is_in(one.above, gone)
+    contains(gone, one.id) || is_in(one.parent, gone)
 }
 
-fn is_in(above: Option<Id>, gone: &[Id]) -> bool
-    ensures { result ≡ is_in above gone.now }
+fn is_in(parent: Option<Id>, gone: &[Id]) -> bool
+    ensures { result ≡ is_in parent gone.now }
 {
-    match above {
-        Some(above) => contains(gone, above),
+    match parent {
+        Some(parent) => contains(gone, parent),
         None => false,
     }
 }
@@ -456,13 +468,13 @@ fn contains(ids: &[Id], id: Id) -> bool
     ids.iter().any(|other| id == *other)
 }
 
-// Returns the newest child of `above` that may be the span of an entry.
-fn child(live: &[Live], above: Option<Id>, listed: &Listed) -> Option<Id>
-    ensures { result ≡ child live.now above listed.now }
+// Returns the newest child of `parent` that may be the span of an entry.
+fn child(live: &[Live], parent: Option<Id>, listed: &Listed) -> Option<Id>
+    ensures { result ≡ child live.now parent listed.now }
 {
     let found = live.iter().rev().find(|one| {
         let one: &Live = one;
-        is_child(one, above, listed)
+        is_child(one, parent, listed)
     })?;
     Some(found.id)
 }
@@ -478,37 +490,37 @@ fn anywhere(live: &[Live], listed: &Listed) -> Option<Id>
     Some(found.id)
 }
 
-// Returns the newest child of `above` that opened on this thread.
-fn child_of_thread(live: &[Live], above: Option<Id>, thread: &str) -> Option<Id>
-    ensures { result ≡ child_of_thread live.now above thread.now }
+// Returns the newest child of `parent` that opened on this thread.
+fn child_of_thread(live: &[Live], parent: Option<Id>, thread: &str) -> Option<Id>
+    ensures { result ≡ child_of_thread live.now parent thread.now }
 {
     let found = live.iter().rev().find(|one| {
         let one: &Live = one;
-        is_child_of_thread(one, above, thread)
+        is_child_of_thread(one, parent, thread)
     })?;
     Some(found.id)
 }
 
-// Returns the span of an entry in the parent `above`, otherwise one anywhere.
-fn found(live: &[Live], above: Option<Id>, listed: &Listed) -> Option<Id>
-    ensures { result ≡ found live.now above listed.now }
+// Returns the span of an entry in the parent `parent`, otherwise one anywhere.
+fn found(live: &[Live], parent: Option<Id>, listed: &Listed) -> Option<Id>
+    ensures { result ≡ found live.now parent listed.now }
 {
-    match child(live, above, listed) {
+    match child(live, parent, listed) {
         Some(id) => Some(id),
         None => anywhere(live, listed),
     }
 }
 
-fn is_child(one: &Live, above: Option<Id>, listed: &Listed) -> bool
-    ensures { result ≡ is_child above listed.now one.now }
+fn is_child(one: &Live, parent: Option<Id>, listed: &Listed) -> bool
+    ensures { result ≡ is_child parent listed.now one.now }
 {
-    same_above(one.above, above) && may_be(listed, &one.first)
+    same_above(one.parent, parent) && may_be(listed, &one.first)
 }
 
-fn is_child_of_thread(one: &Live, above: Option<Id>, thread: &str) -> bool
-    ensures { result ≡ is_child_of_thread above thread.now one.now }
+fn is_child_of_thread(one: &Live, parent: Option<Id>, thread: &str) -> bool
+    ensures { result ≡ is_child_of_thread parent thread.now one.now }
 {
-    same_above(one.above, above) && one.thread.as_str() == thread
+    same_above(one.parent, parent) && one.thread.as_str() == thread
 }
 
 fn same_above(one: Option<Id>, other: Option<Id>) -> bool
@@ -522,7 +534,7 @@ fn same_above(one: Option<Id>, other: Option<Id>) -> bool
 }
 
 impl Source for Tracing {
-    ghost use Rattle.ttree_tracing.specs.Tracing.{tracing_takes, tracing_lacks, tracing_ended, tracing_ends};
+    ghost use Rattle.ttree_tracing.specs.Tracing.{tracing_takes, tracing_problem, tracing_ended, tracing_ends};
 
     ghost takes = { tracing_takes };
 
@@ -530,7 +542,7 @@ impl Source for Tracing {
 
     ghost ended = { tracing_ended };
 
-    ghost lacks = { tracing_lacks };
+    ghost value_problem = { tracing_problem };
 
     fn take(
         &mut self,
@@ -548,14 +560,14 @@ impl Source for Tracing {
             }
             _ => self.take_plain(line)?,
         }
-        let calls = self.told();
+        let calls = self.take_calls();
         Ok(Some(all_on_thread(alloc, &self.thread_shown, calls)?))
     }
 
-    fn lack(value: Option<&Value<'_>>) -> Lack {
+    fn problem(value: Option<&Value<'_>>) -> Problem {
         match value {
-            Some(_) => Lack::Level,
-            None => Lack::Object,
+            Some(_) => Problem::Level,
+            None => Problem::Object,
         }
     }
 
@@ -680,38 +692,38 @@ fn with_late(id: Id, late: &Fields, one: Live) -> Result<Live, AllocError>
 fn forget(_one: Live) {}
 
 // Returns the index of the oldest span that wasn't reported by a `new`.
-fn oldest_untold(live: &[Live]) -> Option<usize>
-    ensures { result ≡ position is_untold live.now }
+fn oldest_pending(live: &[Live]) -> Option<usize>
+    ensures { result ≡ position is_pending live.now }
 {
     live.iter().position(|one| {
         let one: &Live = one;
-        is_untold(one)
+        is_pending(one)
     })
 }
 
-fn is_untold(one: &Live) -> bool
-    ensures { result ≡ is_untold one.now }
+fn is_pending(one: &Live) -> bool
+    ensures { result ≡ is_pending one.now }
 {
-    !one.is_told
+    !one.is_emitted
 }
 
 // Returns how many spans weren't reported by a `new`.
-fn untold_count(live: &[Live]) -> usize
-    ensures { result ≡ untold_from 0 live.now }
+fn pending_count(live: &[Live]) -> usize
+    ensures { result ≡ pending_from 0 live.now }
 {
     let mut count = 0;
     let mut rest = live;
     while let [one, others @ ..] = rest {
-        count = with_untold(one, count);
+        count = with_pending(one, count);
         rest = others;
     }
     count
 }
 
-fn with_untold(one: &Live, count: usize) -> usize
-    ensures { result ≡ with_untold one.now count }
+fn with_pending(one: &Live, count: usize) -> usize
+    ensures { result ≡ with_pending one.now count }
 {
-    if one.is_told {
+    if one.is_emitted {
         count
     } else {
         count.saturating_add(1)

@@ -2,8 +2,8 @@
 
 ghost use Rattle.std.specs.Prelude.{◌≡◌, ◌+◌, ◌≤◌, [], None, false};
 
-use super::desk::{Alone, Desk, Locked, Nowhere, Streamed, UnderLock, WithPass};
 use super::hand::{Hand, Work, event};
+use super::receiver::{Alone, Locked, Nowhere, Receiver, Streamed, UnderLock, WithPass};
 use std::alloc::{AllocError, Global};
 use std::rt::Clock;
 use std::sync::ledger::{Blank, Ledger};
@@ -30,59 +30,64 @@ pub struct Size {
 // How many events were accepted, and how long that took.
 #[derive(Clone, Copy)]
 pub struct Timed {
-    pub told: u64,
+    pub emitted: u64,
     pub nanos: u64,
 }
 
 // The events of one thread, their receiver, and how many were accepted.
 #[derive(Drop)]
-struct Seat<D: Desk> {
+struct Worker<D: Receiver> {
     alloc: Global,
-    desk: D,
+    receiver: D,
     hands: Vec<Hand>,
-    told: u64,
+    emitted: u64,
 }
 
-impl<D: Desk> Seat<D> {
-    fn new(alloc: Global, desk: D, size: Size) -> anyhow::Result<Seat<D>>
+impl<D: Receiver> Worker<D> {
+    fn new(alloc: Global, receiver: D, size: Size) -> anyhow::Result<Worker<D>>
     where
         D: Drop,
     {
         let mut hands = Vec::new(alloc);
         for _ in 0..size.events {
-            hands.push(desk.hand(alloc, event(alloc, size.fields)?)?)?;
+            hands.push(receiver.hand(alloc, event(alloc, size.fields)?)?)?;
         }
-        Ok(Seat {
+        Ok(Worker {
             alloc,
-            desk,
+            receiver,
             hands,
-            told: 0,
+            emitted: 0,
         })
     }
 
     fn run<R: Wait>(&mut self, rt: &R) {
         for hand in mem::replace(&mut self.hands, Vec::new(self.alloc)) {
-            if self.desk.tell(rt, self.alloc, hand) {
-                self.told = self.told.wrapping_add(1);
+            if self.receiver.emit(rt, self.alloc, hand) {
+                self.emitted = self.emitted.wrapping_add(1);
             }
         }
     }
 }
 
 // Passes each thread's events. One thread is this one.
-fn time<R: Threads + Wait + Clock + Sync, D: Desk + Send + Drop>(
+fn time<R: Threads + Wait + Clock + Sync, D: Receiver + Send + Drop>(
     rt: &R,
-    mut seats: Vec<Seat<D>>,
+    mut workers: Vec<Worker<D>>,
 ) -> anyhow::Result<Timed> {
     let start = Instant::now(rt)?;
-    thread::for_each_mut(rt, seats.as_mut_slice(), MOST, &|_, seat| { seat.run(rt) });
+    thread::for_each_mut(
+        rt,
+        workers.as_mut_slice(),
+        MOST,
+        &|_, worker| { worker.run(rt) },
+    );
     let took = start.elapsed(rt)?;
     let nanos = u64::try_from(took.as_nanos()).unwrap_or(u64::MAX);
-    let mut told = 0u64;
-    for seat in &seats {
-        told = told.wrapping_add(seat.told);
+    let mut emitted = 0u64;
+    for worker in &workers {
+        emitted = emitted.wrapping_add(worker.emitted);
     }
-    Ok(Timed { told, nanos })
+    Ok(Timed { emitted, nanos })
 }
 
 // Over memory, with lines and an amount of 2.
@@ -109,8 +114,8 @@ pub fn idle<R: AllocGlobal + Threads + Wait + Clock + Sync>(
     size: Size,
 ) -> anyhow::Result<Timed> {
     let alloc = rt.alloc();
-    let seat = Seat::new(alloc, Nowhere, size)?;
-    time(rt, vec![in alloc; seat]?)
+    let worker = Worker::new(alloc, Nowhere, size)?;
+    time(rt, vec![in alloc; worker]?)
 }
 
 pub fn alone<R: AllocGlobal + Threads + Wait + Clock + Sync>(
@@ -118,11 +123,11 @@ pub fn alone<R: AllocGlobal + Threads + Wait + Clock + Sync>(
     size: Size,
 ) -> anyhow::Result<Timed> {
     let alloc = rt.alloc();
-    let desk = Alone {
+    let receiver = Alone {
         layered: rooted(alloc)?,
     };
-    let seat = Seat::new(alloc, desk, size)?;
-    time(rt, vec![in alloc; seat]?)
+    let worker = Worker::new(alloc, receiver, size)?;
+    time(rt, vec![in alloc; worker]?)
 }
 
 pub fn locked<R: AllocGlobal + Threads + Wait + Clock + Sync>(
@@ -131,11 +136,11 @@ pub fn locked<R: AllocGlobal + Threads + Wait + Clock + Sync>(
 ) -> anyhow::Result<Timed> {
     let alloc = rt.alloc();
     let lock = Mutex::new(rooted(alloc)?);
-    let mut seats = Vec::new(alloc);
+    let mut workers = Vec::new(alloc);
     for _ in 0..size.threads {
-        seats.push(Seat::new(alloc, Locked { lock: &lock }, size)?)?;
+        workers.push(Worker::new(alloc, Locked { lock: &lock }, size)?)?;
     }
-    time(rt, seats)
+    time(rt, workers)
 }
 
 pub fn shared<L: Ledger + Send + Sync, R: AllocGlobal + Threads + Wait + Clock + Sync>(
@@ -150,20 +155,20 @@ pub fn shared<L: Ledger + Send + Sync, R: AllocGlobal + Threads + Wait + Clock +
 {
     let alloc = rt.alloc();
     let (layer, passes) = SharedLayer::<(), L>::open(alloc, blank, fresh(alloc), size.threads)?;
-    let mut seats = Vec::new(alloc);
+    let mut workers = Vec::new(alloc);
     for pass in passes {
-        let desk = WithPass {
+        let receiver = WithPass {
             layer: &layer,
             pass,
             drafts: work == Work::SharedDrafted,
         };
-        seats.push(Seat::new(alloc, desk, size)?)?;
+        workers.push(Worker::new(alloc, receiver, size)?)?;
     }
     let root = Hand::Call(made(alloc, "span", None)?);
-    if let Some(seat) = seats.first_mut() {
-        seat.desk.tell(rt, alloc, root);
+    if let Some(worker) = workers.first_mut() {
+        worker.receiver.emit(rt, alloc, root);
     }
-    time(rt, seats)
+    time(rt, workers)
 }
 
 pub fn streaming<R: AllocGlobal + Threads + Wait + Clock + Sync>(
@@ -173,15 +178,15 @@ pub fn streaming<R: AllocGlobal + Threads + Wait + Clock + Sync>(
 ) -> anyhow::Result<Timed> {
     let alloc = rt.alloc();
     let layer = StreamingLayer::new(rooted(alloc)?);
-    let mut seats = Vec::new(alloc);
+    let mut workers = Vec::new(alloc);
     for _ in 0..size.threads {
-        let desk = Streamed {
+        let receiver = Streamed {
             layer: &layer,
             drafts: work == Work::StreamingDrafted,
         };
-        seats.push(Seat::new(alloc, desk, size)?)?;
+        workers.push(Worker::new(alloc, receiver, size)?)?;
     }
-    time(rt, seats)
+    time(rt, workers)
 }
 
 pub fn counted<R: AllocGlobal + Threads + Wait + Clock + Sync>(
@@ -190,11 +195,11 @@ pub fn counted<R: AllocGlobal + Threads + Wait + Clock + Sync>(
     size: Size,
 ) -> anyhow::Result<Timed> {
     let alloc = rt.alloc();
-    let desk = UnderLock {
+    let receiver = UnderLock {
         counted: Counted::new(rooted(alloc)?),
         // With ansi on, the layer's own settings differ, and it draws each event again.
         config: Config::new(2, work == Work::CountedAnew),
     };
-    let seat = Seat::new(alloc, desk, size)?;
-    time(rt, vec![in alloc; seat]?)
+    let worker = Worker::new(alloc, receiver, size)?;
+    time(rt, vec![in alloc; worker]?)
 }

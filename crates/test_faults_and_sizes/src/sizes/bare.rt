@@ -67,7 +67,7 @@ fn open<S: Keeps>(
     layer.on_new_span(id, spans, context)
 }
 
-fn tell<S: Keeps>(
+fn emit<S: Keeps>(
     layer: &mut Layer,
     spans: &mut S,
     event: &Event,
@@ -122,7 +122,7 @@ fn make<S: Keeps>(
             Err(refusal) => Err(refusal),
         },
         Call::Record(id, values) => record(layer, spans, id, &values),
-        Call::Event(event, context) => tell(layer, spans, &event, &context),
+        Call::Event(event, context) => emit(layer, spans, &event, &context),
         Call::Close(id, context) => end_all(alloc, layer, spans, id, &context),
     }
 }

@@ -71,7 +71,7 @@ fn alternates(alloc: Global, settings: Settings, depth: u64) -> Result<bool, All
     push_chain(&mut steps, depth.wrapping_add(1), depth)?;
     for chain in [1_u64, 2, 1, 2] {
         let last = chain.wrapping_mul(depth);
-        steps.push(Step::Told(Level::Info, "x", Some(last)))?;
+        steps.push(Step::Event(Level::Info, "x", Some(last)))?;
     }
     let answers = Tree::new(alloc, settings)?.run(alloc, steps.as_slice())?;
     Ok(answers.iter().all(|answer| answer.is_ok()))
@@ -101,7 +101,7 @@ fn an_event_has_many_long_lines(rt: HostRuntime) -> Result<(), Fail> {
     let mut line = "x".repeat(alloc, 4_000)?;
     line.push_str("\n")?;
     let message = line.as_str().repeat(alloc, 1_000)?;
-    let steps = [Step::Told(Level::Info, message.as_str(), None)];
+    let steps = [Step::Event(Level::Info, message.as_str(), None)];
     let text = drawn(alloc, LINED, steps.as_slice())?;
     // A block that ends with a line end has an empty line more.
     assert_eq!(rt; text.as_str().lines().count(), 1_001);

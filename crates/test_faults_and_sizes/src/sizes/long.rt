@@ -161,8 +161,8 @@ fn runs_are_long(rt: HostRuntime) -> Result<(), Fail> {
 #[test]
 fn an_event_has_many_fields(rt: HostRuntime) -> Result<(), Fail> {
     let mut layered = spaced(rt.alloc(), 2)?;
-    let told = event(rt.alloc(), "x", 100_000, None)?;
-    assert!(rt; answer(&mut layered, told) == Ok(Reply::Done));
+    let event_call = event(rt.alloc(), "x", 100_000, None)?;
+    assert!(rt; answer(&mut layered, event_call) == Ok(Reply::Done));
     Ok(())
 }
 

@@ -1,4 +1,4 @@
-//! Runs in which one quantity has a given size.
+//! Runs that give one quantity a given size.
 
 use crate::sizes::run::{Run, event, numbered, shown, span};
 use std::alloc::{AllocError, Global};
@@ -103,13 +103,13 @@ fn numbered_span(number: u64) -> Option<u64> {
 
 fn depth(run: &mut Run, size: u64) -> Result<(), AllocError> {
     chain(run, size, 1, None, 0)?;
-    run.tell(numbered_span(size), size)?;
+    run.emit(numbered_span(size), size)?;
     unwind(run, size, 1, 0)
 }
 
 fn at_once(run: &mut Run, size: u64) -> Result<(), AllocError> {
     chain(run, size, 1, None, 0)?;
-    run.tell(numbered_span(size), size)?;
+    run.emit(numbered_span(size), size)?;
     for id in 1..=size {
         run.call(closed(id))?;
     }
@@ -127,7 +127,7 @@ fn roots(run: &mut Run, size: u64) -> Result<(), AllocError> {
     if size > 1 {
         run.show(0)?;
     }
-    run.tell(numbered_span(size.min(1)), size.min(1))?;
+    run.emit(numbered_span(size.min(1)), size.min(1))?;
     for id in 1..=size {
         run.call(closed(id))?;
         run.end(0)?;
@@ -164,7 +164,7 @@ fn branches(run: &mut Run, size: u64) -> Result<(), AllocError> {
     let level = size.wrapping_add(1);
     for leaf in [level, size.wrapping_add(level), level] {
         shows(run, size)?;
-        run.tell(Some(leaf), level)?;
+        run.emit(Some(leaf), level)?;
     }
     unwind_branch(run, size, second)?;
     unwind_branch(run, size, 2)?;
@@ -210,7 +210,7 @@ fn recorded(run: &mut Run, size: u64) -> Result<(), AllocError> {
     let text = shown(alloc, size.wrapping_mul(2))?;
     let row = format!(in alloc; "┐n {text}\n")?;
     run.draw(0, row.as_str())?;
-    run.tell(Some(1), 1)?;
+    run.emit(Some(1), 1)?;
     unwind(run, 1, 1, 0)?;
     unwind(run, 1, 2, 0)
 }
@@ -254,14 +254,14 @@ fn handles(run: &mut Run, size: u64) -> Result<(), AllocError> {
     for _ in 0..size {
         run.call(closed(1))?;
     }
-    run.tell(Some(1), 1)?;
+    run.emit(Some(1), 1)?;
     unwind(run, 1, 1, 0)
 }
 
 fn events(run: &mut Run, size: u64) -> Result<(), AllocError> {
     run.open(None, 0)?;
     for _ in 0..size {
-        run.tell(Some(1), 1)?;
+        run.emit(Some(1), 1)?;
     }
     unwind(run, 1, 1, 0)
 }

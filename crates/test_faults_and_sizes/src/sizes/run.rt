@@ -38,7 +38,7 @@ impl Run {
     }
 
     /// An event `x` in the current span, drawn at this level.
-    pub fn tell(&mut self, current: Option<u64>, level: u64) -> Result<(), AllocError> {
+    pub fn emit(&mut self, current: Option<u64>, level: u64) -> Result<(), AllocError> {
         self.calls.push(event(self.alloc, "x", 0, current)?)?;
         if level == 0 {
             return self.draw(0, "INFO x\n");

@@ -16,7 +16,7 @@ use tracing_tree::rows::{DrawFault, ReadFault, Row, draw_rows, read_rows};
 
 // How the calls are made.
 #[derive(Clone, Copy, Debug)]
-enum Way {
+enum Method {
     // As one run.
     Run,
 
@@ -30,14 +30,14 @@ enum Way {
 // Returns what is drawn, or the first refusal.
 fn text(
     alloc: Global,
-    way: Way,
+    method: Method,
     settings: Settings,
     calls: Vec<Call>,
 ) -> Result<Tape, Option<Refusal>> {
-    match way {
-        Way::Run => by_run(alloc, settings, calls),
-        Way::Kept => over(alloc, settings, Registry::new(alloc), calls),
-        Way::Walked => over(alloc, settings, Walked::new(alloc), calls),
+    match method {
+        Method::Run => by_run(alloc, settings, calls),
+        Method::Kept => over(alloc, settings, Registry::new(alloc), calls),
+        Method::Walked => over(alloc, settings, Walked::new(alloc), calls),
     }
 }
 
@@ -91,9 +91,14 @@ fn is_read_back(alloc: Global, bytes: &[u8]) -> bool {
 }
 
 // Returns whether a run of this size draws what it must in this way.
-fn is_drawn(alloc: Global, quantity: Quantity, size: u64, way: Way) -> Result<bool, AllocError> {
+fn is_drawn(
+    alloc: Global,
+    quantity: Quantity,
+    size: u64,
+    method: Method,
+) -> Result<bool, AllocError> {
     let run = quantity.run(alloc, size)?;
-    let Ok(tape) = text(alloc, way, Settings::Plain, run.calls) else {
+    let Ok(tape) = text(alloc, method, Settings::Plain, run.calls) else {
         return Ok(false);
     };
     Ok(tape.bytes() == run.wanted.as_bytes() && is_read_back(alloc, tape.bytes()))
@@ -105,14 +110,14 @@ fn is_alike(
     quantity: Quantity,
     size: u64,
     settings: Settings,
-    way: Way,
+    method: Method,
 ) -> Result<bool, AllocError> {
     let run = quantity.run(alloc, size)?;
     let again = quantity.run(alloc, size)?;
-    let Ok(wanted) = text(alloc, Way::Run, settings, run.calls) else {
+    let Ok(wanted) = text(alloc, Method::Run, settings, run.calls) else {
         return Ok(false);
     };
-    let Ok(tape) = text(alloc, way, settings, again.calls) else {
+    let Ok(tape) = text(alloc, method, settings, again.calls) else {
         return Ok(false);
     };
     Ok(tape.bytes() == wanted.bytes())
@@ -125,13 +130,13 @@ fn try_size(
     size: u64,
     number: u64,
 ) -> Result<(), AllocError> {
-    let (way, other) = match size % 3 {
-        0 => (Way::Run, Way::Kept),
-        1 => (Way::Kept, Way::Walked),
-        _ => (Way::Walked, Way::Kept),
+    let (method, other) = match size % 3 {
+        0 => (Method::Run, Method::Kept),
+        1 => (Method::Kept, Method::Walked),
+        _ => (Method::Walked, Method::Kept),
     };
-    let drawn = is_drawn(rt.alloc(), quantity, size, way)?;
-    assert!(rt; drawn, "{quantity:?} of {size}, {way:?}");
+    let drawn = is_drawn(rt.alloc(), quantity, size, method)?;
+    assert!(rt; drawn, "{quantity:?} of {size}, {method:?}");
     let settings = Settings::Drawn(number);
     let alike = is_alike(rt.alloc(), quantity, size, settings, other)?;
     assert!(rt; alike, "{quantity:?} of {size}, {other:?}, {settings:?}");

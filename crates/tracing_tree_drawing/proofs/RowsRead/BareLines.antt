@@ -23,7 +23,7 @@ pub event-some : (amount spaces : ℕ) (text rest : List ℕ) → spaces % amoun
 event-some amount spaces text rest e k = rw (e, k) refl
 
 -- whether a prefix was removed
-pub taken-tells : (front text : List ℕ) (r : Option (Bor (List ℕ))) → MatchOption r (after_front front text ≡ None) (λ x. after_front front text ≡ Some x.now) →
+pub taken-emits : (front text : List ℕ) (r : Option (Bor (List ℕ))) → MatchOption r (after_front front text ≡ None) (λ x. after_front front text ≡ Some x.now) →
     is_some (after_front front text) ≡ is_some r
-taken-tells front text None h = ap is_some h
-taken-tells front text (Some x) h = ap is_some h
+taken-emits front text None h = ap is_some h
+taken-emits front text (Some x) h = ap is_some h

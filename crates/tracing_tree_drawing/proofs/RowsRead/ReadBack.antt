@@ -7,7 +7,7 @@ use Rattle.std.proofs.lemmas.List.Folds.{list_all-append}
 use Rattle.tracing_tree_drawing.specs.Format.Picture.{parts_of}
 use Rattle.tracing_tree_drawing.specs.Rows.RowText.{ended, is_unbroken, TextRow, IsReading, IsOnlyReading, IsFirstBadLine, first_lines}
 use Rattle.tracing_tree_drawing.specs.Rows.Readable.{ReadsDrawing, ReadsNoDrawing, text_rows}
-use Rattle.tracing_tree_drawing.specs.Rows.Texts.{TellsFault}
+use Rattle.tracing_tree_drawing.specs.Rows.Texts.{ReportsFault}
 use Rattle.tracing_tree_drawing.specs.declared.rows.read.ReadFault.{ReadFault}
 use Rattle.tracing_tree_drawing.specs.declared.rows.read.ReadFault.TheVariants.{Line, Memory}
 use Rattle.tracing_tree_drawing.specs.Rows.Line.{LineRead, read_line, read_lines, read_from, rows_after, last_after}
@@ -80,14 +80,14 @@ drawn-rows amount text read o settings rows h =
     (λ k. (readable-read settings rows h.readable).only read (subst (λ t. IsReading settings.indent_amount t read) h.drawn k.reading)) o
 
 -- and no line of it is a fault
-pub drawn-fault : (amount : ℕ) → 2 ≤ amount → (text : List ℕ) (fault : ReadFault) → TellsFault amount text fault → ReadsNoDrawing amount text fault
+pub drawn-fault : (amount : ℕ) → 2 ≤ amount → (text : List ℕ) (fault : ReadFault) → ReportsFault amount text fault → ReadsNoDrawing amount text fault
 drawn-fault amount two text (Line n) bad settings rows h =
     absurd (read-no_bad amount two text (text_rows rows) n
     (subst (λ a. IsReading a text (text_rows rows)) h.measured (subst (λ t. IsReading settings.indent_amount t (text_rows rows)) (sym h.drawn) (readable-read settings rows h.readable).reading)) bad)
 drawn-fault amount two text Memory bad settings rows h = refl
 
 -- the same of an answer
-pub drawn-faults : {A : Type 0} (amount : ℕ) → 2 ≤ amount → (text : List ℕ) (r : Result A ReadFault) → IfErr r (λ fault. TellsFault amount text fault) →
+pub drawn-faults : {A : Type 0} (amount : ℕ) → 2 ≤ amount → (text : List ℕ) (r : Result A ReadFault) → IfErr r (λ fault. ReportsFault amount text fault) →
     IfErr r (λ fault. ReadsNoDrawing amount text fault)
 drawn-faults amount two text (Ok x) h = h
 drawn-faults amount two text (Err fault) h = drawn-fault amount two text fault h

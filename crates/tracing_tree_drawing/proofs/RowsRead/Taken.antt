@@ -3,7 +3,7 @@ use Rattle.std.proofs.Common.{◌≡◌, ◌≢◌, ℕ, ◌+◌, ◌<◌, ◌�
 use Rattle.std.specs.Option.{option_map_or}
 use Rattle.tracing_tree_drawing.specs.Rows.RowText.{TextRow, is_text_row, is_unbroken}
 use Rattle.tracing_tree_drawing.specs.Rows.Line.{LineRead.FirstLine, LineRead.LaterLine, with_line, with_last, read_first, read_later}
-use Rattle.tracing_tree_drawing.specs.Rows.Texts.{ReaderView, TakesTextLine, TakesLater, TextLeft, IsReadTo, TakesNext, TellsFault}
+use Rattle.tracing_tree_drawing.specs.Rows.Texts.{ReaderView, TakesTextLine, TakesLater, TextLeft, IsReadTo, TakesNext, ReportsFault}
 use Rattle.tracing_tree_drawing.specs.declared.rows.read.ReadFault.TheVariants.{Line}
 use Rattle.tracing_tree_drawing.specs.declared.rows.read.Taken.{Taken}
 use Rattle.tracing_tree_drawing.specs.declared.rows.read.Taken.TheVariants.{First, Later, Neither}
@@ -54,10 +54,10 @@ taken-next text rows old line after Neither reader lines some split unbroken t n
 
 pub taken-bad : (text : List ℕ) (rows : List TextRow) (old : TextLeft) (line after : List ℕ) (reader : ReaderView) (lines : ℕ) → 2 ≤ old.reader.amount →
     old.rest ≡ line ++ (10 ∷ after) → ((i : ℕ) → i < length line → get_or line i 0 ≢ 10) → TakesTextLine old.reader line (Ok Neither) reader → lines ≡ old.lines + 1 →
-    IsReadTo text rows old → TellsFault old.reader.amount text (Line lines)
+    IsReadTo text rows old → ReportsFault old.reader.amount text (Line lines)
 taken-bad text rows old line after reader lines two split unbroken t n h =
-    subst (λ m. TellsFault old.reader.amount text (Line m)) (sym n) (read_bad text rows old line after two h split (unbroken-from line unbroken) t.0)
+    subst (λ m. ReportsFault old.reader.amount text (Line m)) (sym n) (read_bad text rows old line after two h split (unbroken-from line unbroken) t.0)
 
 pub taken-rest : (text : List ℕ) (rows : List TextRow) (old : TextLeft) → 2 ≤ old.reader.amount → (length old.rest == 0) ≡ false →
-    ((i : ℕ) → i < length old.rest → get_or old.rest i 0 ≢ 10) → IsReadTo text rows old → TellsFault old.reader.amount text (Line (old.lines + 1))
+    ((i : ℕ) → i < length old.rest → get_or old.rest i 0 ≢ 10) → IsReadTo text rows old → ReportsFault old.reader.amount text (Line (old.lines + 1))
 taken-rest text rows old two some unbroken h = read_rest text rows old old.rest two h refl some (unbroken-from old.rest unbroken)

@@ -72,9 +72,9 @@ pub record IsReadTo (text : List ℕ) (rows : List TextRow) (left : TextLeft) : 
   pub counted : left.lines ≡ length before
 
 -- what a fault of the reader says of the input
-abbrev pub TellsFault : ℕ → List ℕ → ReadFault → Type 0
-TellsFault amount text (Line number) = IsFirstBadLine amount text number
-TellsFault amount text Memory = ⊤
+abbrev pub ReportsFault : ℕ → List ℕ → ReadFault → Type 0
+ReportsFault amount text (Line number) = IsFirstBadLine amount text number
+ReportsFault amount text Memory = ⊤
 
 -- what the next line of an input does: it is read, or it is the first bad one; or no line is left
 abbrev pub TakesNext : List ℕ → List TextRow → TextLeft → Result (Option Taken) ReadFault →
@@ -83,7 +83,7 @@ TakesNext text rows old (Ok None) new = (new.rest ≡ []) × IsReadTo text rows 
 TakesNext text rows old (Ok (Some (First done))) new = IsReadTo text (with_last rows done) new
 TakesNext text rows old (Ok (Some Later)) new = IsReadTo text rows new
 TakesNext text rows old (Ok (Some Neither)) new = ⊥
-TakesNext text rows old (Err fault) new = TellsFault old.reader.amount text fault
+TakesNext text rows old (Err fault) new = ReportsFault old.reader.amount text fault
 
 -- the amount stays, and less is left if a line was taken
 abbrev pub LeavesLess : TextLeft → Result (Option Taken) ReadFault → TextLeft → Type 0

@@ -1,4 +1,4 @@
-//! Draws rows: frames, lines and wrap marks (docs/FORMATS.md, "Drawing").
+//! Draws rows: frames, lines and wrap marks (docs/reference/formats.md, "Drawing").
 
 ghost use Rattle.std.specs.List.{repeat};
 ghost use Rattle.std.specs.Prelude.{◌≡◌, ◌+◌, ◌*◌, ◌^◌, ◌<◌, ◌++◌, ◌∷◌, [], true, false, length, take, drop, Some, Err, OnOk, OnErr, IfOk, IfErr, IsTrue, string_bytes, encode_utf8, if◌then◌else◌};

@@ -3,7 +3,7 @@
 ghost use Rattle.std.specs.List.{range_with_len};
 ghost use Rattle.std.specs.Prelude.{◌≡◌, ℕ, ◌+◌, ◌++◌, ◌∷◌, ◌<◌, ◌≤◌, ◌==◌, ◌^◌, List, [], Some, map, IfOk, IfErr, OnOk, OnErr, if◌then◌else◌};
 ghost use Rattle.tracing_tree_drawing.specs.Rows.Paths.{AreEventPaths, ArePathsOf, TakesRow, place_at};
-ghost use Rattle.tracing_tree_drawing.specs.Rows.Texts.{TellsFault};
+ghost use Rattle.tracing_tree_drawing.specs.Rows.Texts.{ReportsFault};
 ghost use Rattle.tracing_tree_drawing.specs.Rows.Readable.{ReadsNoDrawing};
 ghost use Rattle.tracing_tree_drawing.specs.Rows.RowText.{TextRow, is_event, is_opening};
 
@@ -203,7 +203,7 @@ pub fn read_event_paths(
 ) -> Result<Vec<EventPath>, ReadFault>
     requires { 2 ≤ amount }
     ensures paths { IfOk result (λ paths. AreEventPaths amount text.now paths.items) }
-    ensures fault { IfErr result (λ fault. TellsFault amount text.now fault) }
+    ensures fault { IfErr result (λ fault. ReportsFault amount text.now fault) }
     ensures drawn_fault { IfErr result (λ fault. ReadsNoDrawing amount text.now fault) }
 {
     let mut lines = TextReader::new(text, amount);

@@ -2,7 +2,7 @@
 
 ghost use Rattle.std.specs.Prelude.{◌≡◌, ℕ, ◌+◌, ◌≤◌, ◌<◌, ◌^◌, List, None, Some, Ok, false, IfOk, IfErr, IsTrue, MatchOption};
 ghost use Rattle.tracing_tree_drawing.specs.Rows.Line.{after_run, one_line_row, read_corners, read_event, read_first, read_later, read_root};
-ghost use Rattle.tracing_tree_drawing.specs.Rows.Texts.{TakesTextLine, TellsFault, TriesLater, IsReadTo, TakesNext, LeavesLess, all_left};
+ghost use Rattle.tracing_tree_drawing.specs.Rows.Texts.{TakesTextLine, ReportsFault, TriesLater, IsReadTo, TakesNext, LeavesLess, all_left};
 ghost use Rattle.tracing_tree_drawing.specs.Rows.Readable.{ReadsDrawing, ReadsNoDrawing};
 ghost use Rattle.tracing_tree_drawing.specs.Rows.RowText.{TextRow, IsOnlyReading, is_unbroken, mode_of};
 ghost use Rattle.tracing_tree_drawing.specs.Format.Picture.{continuation_shift, shift_of};
@@ -401,13 +401,13 @@ impl<'a> TextReader<'a> {
 /// `Line(n)` if line `n` (from 1) is the first that isn't a line of a row or has no line end.
 /// `Memory` if an allocation fails.
 ///
-/// A drawing that isn't readable (docs/FORMATS.md, 'Rows and their reader') may be read as other
-/// rows than were drawn. Examples are drawings with prefixes, with wrap marks or with another
-/// amount.
+/// A drawing that isn't readable (docs/reference/formats.md, 'Rows and their reader') may be read
+/// as other rows than were drawn. Examples are drawings with prefixes, with wrap marks or with
+/// another amount.
 pub fn read_rows(alloc: Global, text: &str, amount: usize) -> Result<Vec<Row>, ReadFault>
     requires { 2 ≤ amount }
     ensures rows { IfOk result (λ rows. IsOnlyReading amount text.now rows.items) }
-    ensures fault { IfErr result (λ fault. TellsFault amount text.now fault) }
+    ensures fault { IfErr result (λ fault. ReportsFault amount text.now fault) }
     ensures drawn { IfOk result (λ rows. ReadsDrawing amount text.now rows.items) }
     ensures drawn_fault { IfErr result (λ fault. ReadsNoDrawing amount text.now fault) }
 {

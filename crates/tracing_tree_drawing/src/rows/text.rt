@@ -8,7 +8,7 @@ ghost use Rattle.tracing_tree_drawing.specs.Rows.RowText.{begins_with_any, drawi
 ghost use Rattle.tracing_tree_drawing.specs.Format.Picture.{has_line_end};
 
 // Returns what follows this prefix, if the string has it.
-pub(super) fn after<'a>(text: &'a str, front: &str) -> Option<&'a str>
+pub(super) fn strip_prefix<'a>(text: &'a str, front: &str) -> Option<&'a str>
     ensures { MatchOption result (after_front front.now text.now ≡ None)
         (λ x. after_front front.now text.now ≡ Some x.now) }
 {
@@ -22,7 +22,7 @@ pub(super) fn after_repeated<'a>(text: &'a str, piece: &str, count: usize) -> Op
 {
     let mut rest = text;
     for done in 0..count {
-        rest = after(rest, piece)?;
+        rest = strip_prefix(rest, piece)?;
     }
     Some(rest)
 }

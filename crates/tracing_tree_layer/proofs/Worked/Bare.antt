@@ -12,8 +12,8 @@ use Rattle.tracing_tree_layer.specs.Layer.Bare.{BareCall, on_new_span, on_record
 use Rattle.tracing_tree_layer.proofs.WorkedCalls.{lined, outside}
 
 -- the root `a` in a registry, unknown to the layer
-abbrev pub untold : State
-untold = record {
+abbrev pub pending : State
+pending = record {
   forest = add_span (new_span (id_of 1) (record { name = codes "a"; target = []; parent = Root; fields = [] }) None 0) (empty_forest (id_of 1));
   last = None;
   failed = false;
@@ -24,29 +24,29 @@ abbrev pub bare_texts : State → List BareCall → List ℕ
 bare_texts state [] = []
 bare_texts state (call ∷ calls) = bare_text lined no_timer state call ++ bare_texts (bare_state_after lined no_timer state call) calls
 
-pub told_of_root : bare_texts untold (on_new_span (id_of 1) outside ∷ []) ≡ encode_utf8_all (codes "┐a \n")
+pub emitted_of_root : bare_texts pending (on_new_span (id_of 1) outside ∷ []) ≡ encode_utf8_all (codes "┐a \n")
 unfolding encode_utf8
-told_of_root = refl
+emitted_of_root = refl
 
 -- a bare close keeps the span
-pub closed_twice : bare_texts untold (on_close (id_of 1) outside ∷ on_close (id_of 1) outside ∷ []) ≡ encode_utf8_all (codes "┘\n┘\n")
+pub closed_twice : bare_texts pending (on_close (id_of 1) outside ∷ on_close (id_of 1) outside ∷ []) ≡ encode_utf8_all (codes "┘\n┘\n")
 unfolding encode_utf8
 closed_twice = refl
 
 -- an unknown id
-pub unknown_close : bare_cause_of lined no_timer untold (on_close (id_of 9) outside) ≡ Some (NotHeld (id_of 9))
+pub unknown_close : bare_cause_of lined no_timer pending (on_close (id_of 9) outside) ≡ Some (NotHeld (id_of 9))
 unknown_close = refl
 
-pub unknown_new : bare_cause_of lined no_timer untold (on_new_span (id_of 9) outside) ≡ Some (NotHeld (id_of 9))
+pub unknown_new : bare_cause_of lined no_timer pending (on_new_span (id_of 9) outside) ≡ Some (NotHeld (id_of 9))
 unknown_new = refl
 
 -- is accepted in a record, which changes nothing
-pub unknown_record : bare_cause_of lined no_timer untold (on_record (id_of 9) (record { fields = rendered_field [] [] ∷ [] })) ≡ None
+pub unknown_record : bare_cause_of lined no_timer pending (on_record (id_of 9) (record { fields = rendered_field [] [] ∷ [] })) ≡ None
 unknown_record = refl
 
-pub nothing_recorded : bare_state_after lined no_timer untold (on_record (id_of 9) (record { fields = rendered_field [] [] ∷ [] })) ≡ untold
+pub nothing_recorded : bare_state_after lined no_timer pending (on_record (id_of 9) (record { fields = rendered_field [] [] ∷ [] })) ≡ pending
 nothing_recorded = refl
 
 -- on a layer that has failed each call is refused
-pub failed_before : bare_cause_of lined no_timer (record untold { failed = true }) (on_record (id_of 9) (record { fields = [] })) ≡ Some Failed
+pub failed_before : bare_cause_of lined no_timer (record pending { failed = true }) (on_record (id_of 9) (record { fields = [] })) ≡ Some Failed
 failed_before = refl

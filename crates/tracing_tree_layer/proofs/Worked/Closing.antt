@@ -12,7 +12,7 @@ use Rattle.tracing_tree_layer.specs.Layered.State.{State, opening_state}
 use Rattle.tracing_tree_layer.specs.Layered.Run.{answers_of, MayAnswer}
 use Rattle.tracing_tree_layer.specs.declared.call.Call.TheVariants.{New, Clone, Record}
 use Rattle.tracing_tree_layer.specs.declared.call.Reply.TheVariants.{Cloned, Done, Closed}
-use Rattle.tracing_tree_layer.proofs.WorkedCalls.{plain, lined, outside, inside, made, message, told, informed, closed, left_by, written_after, root_and_child, two_roots, written_after_root}
+use Rattle.tracing_tree_layer.proofs.WorkedCalls.{plain, lined, outside, inside, made, message, emitted, informed, closed, left_by, written_after, root_and_child, two_roots, written_after_root}
 
 -- a handle that is cloned keeps the parent
 pub cloned_parent : answers_of lined no_timer (left_by lined root_and_child) (Clone (id_of 1) ∷ closed 1 ∷ closed 2 ∷ closed 1 ∷ [])
@@ -48,13 +48,13 @@ unfolding encode_utf8
 named_parent = refl
 
 -- an event below a span that is not its current one
-pub event_below_named : written_after lined (made (codes "a") outside ∷ made (codes "b") outside ∷ New (record { name = codes "c"; target = []; parent = Of (id_of 1); fields = [] }) (inside 2) ∷ []) (told Info (Of (id_of 3)) (message (codes "x") ∷ []) (inside 2) ∷ [])
+pub event_below_named : written_after lined (made (codes "a") outside ∷ made (codes "b") outside ∷ New (record { name = codes "c"; target = []; parent = Of (id_of 1); fields = [] }) (inside 2) ∷ []) (emitted Info (Of (id_of 3)) (message (codes "x") ∷ []) (inside 2) ∷ [])
     ≡ encode_utf8_all (codes "  ├─ INFO x\n")
 unfolding encode_utf8
 event_below_named = refl
 
 -- an event without a parent has level 0, and the space after the time in its current span stays
-pub event_at_root : written_after lined (made (codes "a") outside ∷ made (codes "b") outside ∷ New (record { name = codes "c"; target = []; parent = Of (id_of 1); fields = [] }) (inside 2) ∷ []) (told Info Root (message (codes "x") ∷ []) (inside 2) ∷ [])
+pub event_at_root : written_after lined (made (codes "a") outside ∷ made (codes "b") outside ∷ New (record { name = codes "c"; target = []; parent = Of (id_of 1); fields = [] }) (inside 2) ∷ []) (emitted Info Root (message (codes "x") ∷ []) (inside 2) ∷ [])
     ≡ encode_utf8_all (codes " INFO x\n")
 unfolding encode_utf8
 event_at_root = refl

@@ -9,7 +9,7 @@ use Rattle.tracing_tree_layer.specs.declared.call.Call.TheVariants.{New, Event}
 use Rattle.tracing_tree_drawing.specs.Format.Picture.{is_too_wide}
 use Rattle.tracing_tree_drawing.specs.declared.format.SpanMode.TheVariants.{PostClose}
 use Rattle.tracing_tree_drawing.specs.declared.format.SpanMode.TheVariants.{Event as EventMode}
-use Rattle.tracing_tree_layer.proofs.WorkedCalls.{plain, lined, outside, inside, made_with, made, message, told, informed, closed, written, written_after, root_and_child, written_after_root}
+use Rattle.tracing_tree_layer.proofs.WorkedCalls.{plain, lined, outside, inside, made_with, made, message, emitted, informed, closed, written, written_after, root_and_child, written_after_root}
 
 -- labels and targets
 pub labels_and_targets : written (record lined { span_modes = true; targets = true }) (New (record { name = codes "a"; target = codes "t"; parent = Current; fields = [] }) outside ∷ Event (record { level = Info; target = codes "u"; parent = Current; fields = message (codes "x") ∷ [] }) (inside 1) ∷ closed 1 ∷ [])
@@ -36,7 +36,7 @@ unfolding encode_utf8
 coloured_brackets = refl
 
 -- a field of a log record is skipped
-pub skipped_field : written plain (told Warn Current (rendered_field (codes "k") (codes "1") ∷ rendered_field (codes "log.file") (codes "f") ∷ message (codes "m") ∷ []) outside ∷ [])
+pub skipped_field : written plain (emitted Warn Current (rendered_field (codes "k") (codes "1") ∷ rendered_field (codes "log.file") (codes "f") ∷ message (codes "m") ∷ []) outside ∷ [])
     ≡ encode_utf8_all (codes " WARN k=1, m\n")
 unfolding encode_utf8
 skipped_field = refl

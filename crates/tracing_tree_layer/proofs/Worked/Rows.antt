@@ -13,7 +13,7 @@ use Rattle.tracing_tree_layer.specs.Layered.State.{opening_state}
 use Rattle.tracing_tree_layer.specs.Layered.Run.{text_of, answers_of}
 use Rattle.tracing_tree_layer.specs.declared.call.Call.TheVariants.{Record}
 use Rattle.tracing_tree_layer.specs.declared.call.Reply.TheVariants.{Span, Closed}
-use Rattle.tracing_tree_layer.proofs.WorkedCalls.{plain, lined, outside, inside, made_with, made, told, informed, warned, closed, written, left_by, written_after, root_and_child, two_roots, written_after_root, at_mono}
+use Rattle.tracing_tree_layer.proofs.WorkedCalls.{plain, lined, outside, inside, made_with, made, emitted, informed, warned, closed, written, left_by, written_after, root_and_child, two_roots, written_after_root, at_mono}
 
 -- a tree of two spans with an event
 pub a_tree : written lined (made (codes "a") outside ∷ made (codes "b") (inside 1) ∷ warned (codes "x") (inside 2) ∷ closed 2 ∷ closed 1 ∷ [])
@@ -110,12 +110,12 @@ pub last_id : answers_of lined no_timer (opening_state (Some (id_of 18_446_744_0
 last_id = refl
 
 -- a level of 2 is too wide at this amount
-pub too_wide : answers_of (record plain { deferred_spans = true; indent_amount = 9_223_372_036_854_775_808 }) no_timer (left_by (record plain { deferred_spans = true; indent_amount = 9_223_372_036_854_775_808 }) (made (codes "a") outside ∷ made (codes "b") (inside 1) ∷ made (codes "c") (inside 2) ∷ [])) (told Info (Of (id_of 3)) [] outside ∷ [])
+pub too_wide : answers_of (record plain { deferred_spans = true; indent_amount = 9_223_372_036_854_775_808 }) no_timer (left_by (record plain { deferred_spans = true; indent_amount = 9_223_372_036_854_775_808 }) (made (codes "a") outside ∷ made (codes "b") (inside 1) ∷ made (codes "c") (inside 2) ∷ [])) (emitted Info (Of (id_of 3)) [] outside ∷ [])
     ≡ Err TooWide ∷ []
 too_wide = refl
 
 -- and nothing is written
-pub too_wide_writes_nothing : written_after (record plain { deferred_spans = true; indent_amount = 9_223_372_036_854_775_808 }) (made (codes "a") outside ∷ made (codes "b") (inside 1) ∷ made (codes "c") (inside 2) ∷ []) (told Info (Of (id_of 3)) [] outside ∷ []) ≡ []
+pub too_wide_writes_nothing : written_after (record plain { deferred_spans = true; indent_amount = 9_223_372_036_854_775_808 }) (made (codes "a") outside ∷ made (codes "b") (inside 1) ∷ made (codes "c") (inside 2) ∷ []) (emitted Info (Of (id_of 3)) [] outside ∷ []) ≡ []
 too_wide_writes_nothing = refl
 
 -- milliseconds

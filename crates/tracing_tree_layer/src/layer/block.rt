@@ -5,7 +5,7 @@ ghost use Rattle.tracing_tree_drawing.specs.Format.Texts.{label, named_value, sh
 ghost use Rattle.tracing_tree_layer.specs.Layer.Block.{shown_brace, span_text, span_block, event_tail};
 ghost use Rattle.tracing_tree_layer.specs.Layer.Heads.{shown_target, span_head};
 
-use crate::told::ToldEvent;
+use crate::parts::EventParts;
 use std::alloc::AllocError;
 use tracing_tree_base::field::Field;
 use tracing_tree_base::style::push_level;
@@ -131,13 +131,13 @@ pub(super) fn push_span_block(
 /// # Errors
 ///
 /// `AllocError` if an allocation fails. A part of them may be in `out` then.
-pub fn push_event_tail<E: ToldEvent>(
+pub fn push_event_tail<E: EventParts>(
     out: &mut String,
     config: &Config,
     event: &E,
 ) -> Result<(), AllocError>
     ensures { OnOk result
-        (string_bytes out.new ≡ string_bytes out.old ++ event_tail config.now (E.told event.now)) }
+        (string_bytes out.new ≡ string_bytes out.old ++ event_tail config.now (E.whole event.now)) }
 {
     push_level(out, config.ansi(), event.level())?;
     if config.targets() && config.ansi() {

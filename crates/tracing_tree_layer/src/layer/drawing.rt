@@ -10,7 +10,7 @@ ghost use Rattle.tracing_tree_layer.specs.Layer.Drawn.{DrawsRows, Drafts, IsUnti
 
 use super::block::{push_event_tail, push_span_block};
 use super::plan::{Plan, PlannedRow, Planner};
-use crate::told::ToldEvent;
+use crate::parts::EventParts;
 use std::alloc::{AllocError, Global};
 use tracing_tree_base::{Context, Id, Refusal};
 use tracing_tree_drawing::format::{Config, RowDrawing, SpanMode};
@@ -81,7 +81,7 @@ impl<'a, S: LookupSpan> CallDrawing<'a, S> {
 
     // Draws an event that is nested in `depth` spans, after the rows of the spans that it shows.
     // Its own width is checked before any allocation. Uses the tail, if it was drawn before.
-    pub(super) fn event<FT: FormatTime, E: ToldEvent>(
+    pub(super) fn event<FT: FormatTime, E: EventParts>(
         &self,
         page: &mut String,
         plan: &mut Plan,
@@ -90,17 +90,17 @@ impl<'a, S: LookupSpan> CallDrawing<'a, S> {
         tail: Option<&str>,
         depth: usize,
     ) -> Result<(), Refusal>
-        requires tail { IfSome tail (λ t. t.now ≡ event_tail self.now.config.now (E.told event.now)) }
-        requires depth { depth ≡ event_depth (S.forest self.now.spans.now) (E.told event.now)
+        requires tail { IfSome tail (λ t. t.now ≡ event_tail self.now.config.now (E.whole event.now)) }
+        requires depth { depth ≡ event_depth (S.forest self.now.spans.now) (E.whole event.now)
             self.now.context.now }
         ensures { let settings = self.now.config.now in
             let context = self.now.context.now in
             let forest = S.forest self.now.spans.now in
             let timer = FT.timer timer.now in
             let last = self.now.last in
-            let turn = turn_of_event settings timer context forest last (E.told event.now) in
+            let turn = turn_of_event settings timer context forest last (E.whole event.now) in
             let faults = timer_faults_at settings timer forest context in
-            let wide = is_event_too_wide settings timer forest (E.told event.now) context in
+            let wide = is_event_too_wide settings timer forest (E.whole event.now) context in
             Drafts settings forest turn faults wide result (string_bytes page.old)
             (string_bytes page.new) plan.new }
     {
@@ -187,7 +187,7 @@ impl<'a, S: LookupSpan> CallDrawing<'a, S> {
     }
 
     // Draws the row of an event at this level, which isn't too wide.
-    fn event_row<FT: FormatTime, E: ToldEvent>(
+    fn event_row<FT: FormatTime, E: EventParts>(
         &self,
         page: &mut String,
         timer: &FT,
@@ -195,17 +195,17 @@ impl<'a, S: LookupSpan> CallDrawing<'a, S> {
         tail: Option<&str>,
         level: usize,
     ) -> Result<(), Refusal>
-        requires tail { IfSome tail (λ t. t.now ≡ event_tail self.now.config.now (E.told event.now)) }
+        requires tail { IfSome tail (λ t. t.now ≡ event_tail self.now.config.now (E.whole event.now)) }
         requires level { let forest = S.forest self.now.spans.now in
-            let parent = event_parent forest (E.told event.now) self.now.context.now in
+            let parent = event_parent forest (E.whole event.now) self.now.context.now in
             level ≡ event_level self.now.config.now (path_of_any forest parent) }
         requires fits { is_event_too_wide self.now.config.now (FT.timer timer.now)
-            (S.forest self.now.spans.now) (E.told event.now) self.now.context.now ≡ false }
+            (S.forest self.now.spans.now) (E.whole event.now) self.now.context.now ≡ false }
         ensures { let settings = self.now.config.now in
             let context = self.now.context.now in
             let forest = S.forest self.now.spans.now in
             let timer = FT.timer timer.now in
-            let row = event_row settings timer forest (E.told event.now) context in
+            let row = event_row settings timer forest (E.whole event.now) context in
             let faults = timer_faults_at settings timer forest context in
             DrawsRows settings (row ∷ []) faults result (string_bytes page.old)
             (string_bytes page.new) }
@@ -231,18 +231,18 @@ impl<'a, S: LookupSpan> CallDrawing<'a, S> {
     }
 
     // Appends the block of an event's row: the timer's texts, the level, the target and the fields.
-    fn event_block<FT: FormatTime, E: ToldEvent>(
+    fn event_block<FT: FormatTime, E: EventParts>(
         &self,
         out: &mut String,
         timer: &FT,
         event: &E,
         tail: Option<&str>,
     ) -> Result<(), Refusal>
-        requires { IfSome tail (λ t. t.now ≡ event_tail self.now.config.now (E.told event.now)) }
+        requires { IfSome tail (λ t. t.now ≡ event_tail self.now.config.now (E.whole event.now)) }
         ensures ok { let settings = self.now.config.now in
             let context = self.now.context.now in
             let since = time_in_current (S.forest self.now.spans.now) context in
-            let block = event_block settings (FT.timer timer.now) context.moment since (E.told event.now) in
+            let block = event_block settings (FT.timer timer.now) context.moment since (E.whole event.now) in
             OnOk result (string_bytes out.new ≡ string_bytes out.old ++ block) }
         ensures has { let forest = S.forest self.now.spans.now in
             let timer = FT.timer timer.now in

@@ -29,9 +29,9 @@ no-end line clean i lt e = false≢true (sym (clean i 0 lt) ∙ eq-eqb (get_or l
 -- what a line does, by what a reader of its string returns
 pub taken-as : (old new : ReaderView) (text line : List ℕ) (taken wanted : Taken) → text ≡ line → taken ≡ wanted → HasNoLineEnd line →
     (is_unbroken text ≡ true → TakesTextLine old text (Ok taken) new) → TakesTextLine old line (Ok wanted) new
-taken-as old new text line taken wanted same is clean told =
+taken-as old new text line taken wanted same is clean emitted =
     subst (λ t. TakesTextLine old line (Ok t) new) is
-    (subst (λ bytes. TakesTextLine old bytes (Ok taken) new) same (told (ap is_unbroken same ∙ unbroken-from line (no-end line clean))))
+    (subst (λ bytes. TakesTextLine old bytes (Ok taken) new) same (emitted (ap is_unbroken same ∙ unbroken-from line (no-end line clean))))
 
 -- a line that isn't UTF-8 isn't a line of a row
 bad-text : (amount : ℕ) (input : List ℕ) (before : List (List ℕ)) (line after : List ℕ) (number : ℕ) → input ≡ ended before ++ (line ++ (10 ∷ after)) →

@@ -10,7 +10,7 @@ use Rattle.tracing_tree_drawing.specs.Format.Picture.{Row, parts_of}
 use Rattle.tracing_tree_drawing.specs.Format.Settings.{Settings}
 use Rattle.tracing_tree_drawing.specs.Rows.Readable.{IsDrawing}
 use Rattle.tracing_tree_drawing.specs.Rows.Paths.{AreLastPlaces, FollowsRows}
-use Rattle.tracing_tree_lines.specs.Rows.Json.{BeginsWithRows, EndsAtLine, IsNoText, IsNotARow, LeavesWritten, TellsLine, WritesDrawing, WritesRows, all_but_last, json_line, json_lines, row_json}
+use Rattle.tracing_tree_lines.specs.Rows.Json.{BeginsWithRows, EndsAtLine, IsNoText, IsNotARow, LeavesWritten, ReportsLine, WritesDrawing, WritesRows, all_but_last, json_line, json_lines, row_json}
 use Rattle.tracing_tree_lines.specs.Rows.JsonSteps.{HasEnded, HasWritten, SoFar, WritesNext, WritesText, drops_last, fault_at}
 use Rattle.tracing_tree_drawing.specs.Rows.Line.{with_last}
 use Rattle.tracing_tree_drawing.specs.Rows.Texts.{IsReadTo, IsReadUpTo, TextLeft}
@@ -129,7 +129,7 @@ refused-first amount two input start = record {
   rows = [];
   numbered = omega arith;
   before = lines-begin amount two input [] input [] None 0 refl refl refl (read_none amount);
-  tells = tt;
+  emits = tt;
   written = Appends-nil start;
 }
 
@@ -152,12 +152,12 @@ module _ {amount : ℕ} {input : List ℕ} {start : Option (List ℕ)} {count : 
 
   -- the reading ended at the next line
   ends-at : (so : SoFar amount input start count rest read now) (line : ℕ) (cause : RowCause) (after : Option (List ℕ)) → line ≡ count + 1 →
-      TellsLine amount input line cause → LeavesWritten cause (all_rows so) start after → EndsAtLine amount input (record { line = line; cause = cause }) start after
-  ends-at so line cause after is tells written = record {
+      ReportsLine amount input line cause → LeavesWritten cause (all_rows so) start after → EndsAtLine amount input (record { line = line; cause = cause }) start after
+  ends-at so line cause after is emits written = record {
     rows = all_rows so;
     numbered = omega arith;
     before = let same : line - 1 ≡ count = omega arith in subst (λ n. BeginsWithRows amount input n (all_rows so)) (sym same) (begins so);
-    tells = tells;
+    emits = emits;
     written = written;
   }
 
@@ -241,7 +241,7 @@ writes-drawing : (amount : ℕ) → 2 ≤ amount → (input : List ℕ) (result 
     WritesRows amount input result old new → WritesDrawing amount input result old new
 writes-drawing amount two input (Ok done) old new all = λ settings rows drawing.
     subst (λ rs. Appends old new (json_lines rs)) (drawn-rows amount input all.rows all.reading settings rows drawing) all.written
-writes-drawing amount two input (Err fault) old new ends = λ settings rows drawing is. by settings rows drawing (subst (TellsLine amount input fault.line) is ends.tells)
+writes-drawing amount two input (Err fault) old new ends = λ settings rows drawing is. by settings rows drawing (subst (ReportsLine amount input fault.line) is ends.emits)
   where
     by : (settings : Settings) (rows : List Row) → IsDrawing amount input settings rows → IsNotARow amount input fault.line → IsNoText input fault.line
     by settings rows drawing (inl bad) =

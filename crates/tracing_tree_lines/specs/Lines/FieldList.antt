@@ -1,10 +1,10 @@
 -- The fields of a line.
 use Rattle.std.specs.Prelude.{List, [], ◌∷◌}
 use Rattle.tracing_tree_base.specs.declared.field.Field.{Field}
-use Rattle.tracing_tree_lines.specs.declared.lines.field_list.Kept.{Kept}
+use Rattle.tracing_tree_lines.specs.declared.lines.field_list.Storage.{Storage}
 
 -- which fields a list has, wherever they are stored
-abbrev pub kept_fields : Kept → List Field
-kept_fields Kept.None = []
-kept_fields (Kept.One field) = field ∷ []
-kept_fields (Kept.Many list) = list.items
+abbrev pub kept_fields : Storage → List Field
+kept_fields Storage.None = []
+kept_fields (Storage.One field) = field ∷ []
+kept_fields (Storage.Many list) = list.items

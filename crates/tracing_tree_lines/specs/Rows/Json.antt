@@ -121,11 +121,11 @@ LeavesWritten Writer rows old new = WritesBeginning rows old new
 
 -- what a cause says of the line at which the reading ended; nothing, if the cause comes from
 -- outside
-abbrev pub TellsLine : ℕ → List ℕ → ℕ → RowCause → Type 0
-TellsLine amount input line NotARow = IsNotARow amount input line
-TellsLine amount input line Read = ⊤
-TellsLine amount input line Memory = ⊤
-TellsLine amount input line Writer = ⊤
+abbrev pub ReportsLine : ℕ → List ℕ → ℕ → RowCause → Type 0
+ReportsLine amount input line NotARow = IsNotARow amount input line
+ReportsLine amount input line Read = ⊤
+ReportsLine amount input line Memory = ⊤
+ReportsLine amount input line Writer = ⊤
 
 -- the reading ended at a line: those before it are the drawing of rows, of which this much was
 -- written
@@ -134,7 +134,7 @@ pub record EndsAtLine (amount : ℕ) (input : List ℕ) (fault : RowFault)
   pub rows : List TextRow
   pub numbered : 1 ≤ fault.line
   pub before : BeginsWithRows amount input (fault.line - 1) rows
-  pub tells : TellsLine amount input fault.line fault.cause
+  pub emits : ReportsLine amount input fault.line fault.cause
   pub written : LeavesWritten fault.cause rows old new
 
 -- the input is the drawing of rows and of no others, and a line of JSON was written for each row

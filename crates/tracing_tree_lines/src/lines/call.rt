@@ -23,7 +23,7 @@ use tracing_tree_base::text::Text;
 use tracing_tree_base::{Context, Id};
 use tracing_tree_layer::call::{Call, Reply};
 use tracing_tree_layer::calls::Calls;
-use tracing_tree_layer::told::{EventTexts, FieldTexts};
+use tracing_tree_layer::parts::{EventTexts, FieldTexts};
 use tracing_tree_spans::registry::{Attributes, Parent, Record};
 
 /// Makes the call of a line on a receiver, and returns its reply.

@@ -5,7 +5,7 @@ ghost use Rattle.std.specs.Prelude.{◌≡◌, ◌++◌, ◌∷◌, [], OnErr, O
 use std::alloc::{AllocError, Global};
 use std::marker::Model;
 use std::slice;
-use tracing_tree_layer::told::FieldTexts;
+use tracing_tree_layer::parts::FieldTexts;
 
 // The first capacity of a list of several fields.
 const ROOM: usize = 4;
@@ -13,12 +13,12 @@ const ROOM: usize = 4;
 // The fields of a line, in order. Most lines have one. It is stored inline and never allocates.
 #[derive(Drop)]
 pub(super) struct FieldList<'a> {
-    kept: Kept<'a>,
+    kept: Storage<'a>,
 }
 
 // How fields are stored.
 #[derive(Drop)]
-enum Kept<'a> {
+enum Storage<'a> {
     None,
     One(FieldTexts<'a>),
     Many(Vec<FieldTexts<'a>>),
@@ -40,7 +40,9 @@ impl<'a> FieldList<'a> {
     pub(super) fn new() -> FieldList<'a>
         ensures { result ≡ [] }
     {
-        FieldList { kept: Kept::None }
+        FieldList {
+            kept: Storage::None,
+        }
     }
 
     // Appends a field. The first one never allocates. `AllocError` if an allocation fails. The list
@@ -51,8 +53,8 @@ impl<'a> FieldList<'a> {
         ensures err { OnErr result (self.new ≡ self.old) }
     {
         match &mut self.kept {
-            Kept::None => self.kept = Kept::One(field),
-            Kept::One(first) => {
+            Storage::None => self.kept = Storage::One(field),
+            Storage::One(first) => {
                 let mut list = Vec::with_capacity(alloc, ROOM)?;
                 // `first` is borrowed, so a new field is made from its strings.
                 list.push_reserved(FieldTexts {
@@ -60,9 +62,9 @@ impl<'a> FieldList<'a> {
                     value: first.value,
                 });
                 list.push_reserved(field);
-                self.kept = Kept::Many(list);
+                self.kept = Storage::Many(list);
             }
-            Kept::Many(list) => list.push(field)?,
+            Storage::Many(list) => list.push(field)?,
         }
         Ok(())
     }
@@ -73,9 +75,9 @@ impl<'a> FieldList<'a> {
         ensures { result.now ≡ self.now }
     {
         match &self.kept {
-            Kept::None => &[],
-            Kept::One(field) => slice::from_ref(field),
-            Kept::Many(list) => list.as_slice(),
+            Storage::None => &[],
+            Storage::One(field) => slice::from_ref(field),
+            Storage::Many(list) => list.as_slice(),
         }
     }
 }

@@ -9,7 +9,7 @@ ghost use Rattle.tracing_tree_lines.specs.Lines.Taken.{pair_with, IsItemTaken, I
 
 use super::skip::{ITEM_DEPTH, skip_rest};
 use json::{Invalid, Reader, Token};
-use tracing_tree_layer::told::FieldTexts;
+use tracing_tree_layer::parts::FieldTexts;
 
 // The items of an array so far, as long as it may be a pair of strings.
 #[derive(Clone, Copy)]

@@ -7,7 +7,7 @@ ghost use Rattle.tracing_tree_lines.specs.Lines.Parts.{listed_data, part_data};
 ghost use Rattle.tracing_tree_lines.specs.Lines.Spelled.{fields_value, signed_value, unless_null, whole_value};
 
 use super::field_list::FieldList;
-use tracing_tree_layer::told::FieldTexts;
+use tracing_tree_layer::parts::FieldTexts;
 
 // A value that a call is read from, except for its fields.
 #[derive(Clone, Copy, Drop)]

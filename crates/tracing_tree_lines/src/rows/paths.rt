@@ -3,7 +3,7 @@
 ghost use Rattle.std.specs.Prelude.{◌≤◌, IfOk, IfErr};
 ghost use Rattle.tracing_tree_lines.specs.Laws.Ancestry.{FindsInRuns};
 ghost use Rattle.tracing_tree_drawing.specs.Rows.Paths.{AreEventPaths};
-ghost use Rattle.tracing_tree_drawing.specs.Rows.Texts.{TellsFault};
+ghost use Rattle.tracing_tree_drawing.specs.Rows.Texts.{ReportsFault};
 ghost use Rattle.tracing_tree_drawing.specs.Rows.Readable.{ReadsNoDrawing};
 
 use std::alloc::Global;
@@ -20,7 +20,7 @@ use tracing_tree_drawing::rows::{EventPath, ReadFault};
 pub fn read_paths(alloc: Global, text: &str, amount: usize) -> Result<Vec<EventPath>, ReadFault>
     requires { 2 ≤ amount }
     ensures paths { IfOk result (λ paths. AreEventPaths amount text.now paths.items) }
-    ensures fault { IfErr result (λ fault. TellsFault amount text.now fault) }
+    ensures fault { IfErr result (λ fault. ReportsFault amount text.now fault) }
     ensures found { IfOk result (λ paths. FindsInRuns amount text.now paths.items) }
     ensures drawn_fault { IfErr result (λ fault. ReadsNoDrawing amount text.now fault) }
 {

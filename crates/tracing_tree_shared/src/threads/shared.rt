@@ -12,7 +12,7 @@ use std::sync::ledger::Ledger;
 use tracing_tree_base::{Context, Id, Refusal};
 use tracing_tree_layer::call::{Call, Reply, copied_context};
 use tracing_tree_layer::calls::Calls;
-use tracing_tree_layer::told::ToldEvent;
+use tracing_tree_layer::parts::EventParts;
 use tracing_tree_spans::registry::{Attributes, Record};
 use tracing_tree_time::FormatTime;
 
@@ -100,7 +100,7 @@ impl<'a, R: Wait, FT: FormatTime + Drop, L: Ledger> Calls for SharedCalls<'a, R,
         Ok(())
     }
 
-    fn event<E: ToldEvent>(&mut self, event: &E, context: &Context) -> Result<(), Refusal> {
+    fn event<E: EventParts>(&mut self, event: &E, context: &Context) -> Result<(), Refusal> {
         let event = event.to_event(self.alloc)?;
         let context = copied_context(context)?;
         let Reply::Done = self.call(Call::Event(event, context))? else {

@@ -11,7 +11,7 @@ use std::sync::Wait;
 use tracing_tree_base::{Context, Id, Refusal};
 use tracing_tree_layer::call::{Call, Reply, copied_context};
 use tracing_tree_layer::calls::Calls;
-use tracing_tree_layer::told::ToldEvent;
+use tracing_tree_layer::parts::EventParts;
 use tracing_tree_output::Output;
 use tracing_tree_spans::registry::{Attributes, Record};
 use tracing_tree_time::FormatTime;
@@ -80,7 +80,7 @@ impl<'a, R: Wait, W: Output, FT: FormatTime> Calls for StreamingCalls<'a, R, W, 
         Ok(())
     }
 
-    fn event<E: ToldEvent>(&mut self, event: &E, context: &Context) -> Result<(), Refusal> {
+    fn event<E: EventParts>(&mut self, event: &E, context: &Context) -> Result<(), Refusal> {
         let event = event.to_event(self.alloc)?;
         let context = copied_context(context)?;
         let Reply::Done = self.call(Call::Event(event, context))? else {

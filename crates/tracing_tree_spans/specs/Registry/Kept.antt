@@ -1,10 +1,11 @@
 -- The list of spans that a registry keeps.
-use Rattle.std.specs.Prelude.{◌≡◌, ℕ, nat_lt, Bool, not, if◌then◌else◌, IsTrue, List, map, filter, find, length, Option, Some, None, [], option_and_then}
-use Rattle.std.specs.Option.{option_map_or}
+use Rattle.std.specs.Prelude.{◌≡◌, ℕ, nat_lt, Bool, not, if◌then◌else◌, IsTrue, List, map, filter, find, length, Option, Some, None}
 use Rattle.std.specs.List.{list_all}
 use Rattle.tracing_tree_spans.specs.Registry.Spans.{Span, KeptSpan, child_more}
 use Rattle.tracing_tree_spans.specs.Registry.Forest.{has_id, path_of, children_of}
 use Rattle.tracing_tree_spans.specs.Registry.Registered.{alone}
+use Rattle.tracing_tree_spans.specs.Registry.Branches.{path_at}
+use Rattle.tracing_tree_spans.specs.declared.registry.branches.Branch.{Branch}
 use Rattle.tracing_tree_base.specs.declared.context.Id.{Id}
 
 -- whether it is the span with this id
@@ -27,10 +28,6 @@ change_kept change i nodes = map (λ node. if keeps_id i node then change node e
 abbrev pub leave_out : Id → List KeptSpan → List KeptSpan
 leave_out i nodes = filter (λ node. not (keeps_id i node)) nodes
 
--- the path that is kept with a span; empty if the span is missing
-abbrev pub kept_path : List KeptSpan → Option Id → List Id
-kept_path nodes o = option_map_or (λ node. node.path) (option_and_then (kept_at nodes) o) []
-
 -- the list with one child more counted at this parent
 abbrev pub with_child : Option Id → List KeptSpan → List KeptSpan
 with_child None nodes = nodes
@@ -44,9 +41,14 @@ without_span i spans = filter (λ span. not (has_id i span)) spans
 abbrev pub AreBelow : ℕ → List KeptSpan → Type 0
 AreBelow n nodes = IsTrue (list_all (λ node. nat_lt node.span.id.0 n) nodes)
 
--- each span is kept with its path and with the number of its children
-pub record IsTied (nodes : List KeptSpan) : Type 0 where
-  pub paths : (i : Id) (node : KeptSpan) → kept_at nodes i ≡ Some node → node.path
-      ≡ path_of (alone (spans_of nodes)) i
-  pub children : (i : Id) (node : KeptSpan) → kept_at nodes i ≡ Some node →
-      node.children ≡ length (children_of (alone (spans_of nodes)) i)
+-- each span is kept with the number of its children
+abbrev pub CountsChildren : List KeptSpan → Type 0
+CountsChildren nodes =
+    (i : Id) (node : KeptSpan) → kept_at nodes i ≡ Some node →
+    node.children ≡ length (children_of (alone (spans_of nodes)) i)
+
+-- each span is kept with its path, which these branches store, and with the number of its children
+pub record IsTied (branches : List Branch) (nodes : List KeptSpan) : Type 0 where
+  pub paths : (i : Id) (node : KeptSpan) → kept_at nodes i ≡ Some node →
+      path_at branches node.path ≡ Some (path_of (alone (spans_of nodes)) i)
+  pub children : CountsChildren nodes

@@ -4,7 +4,6 @@ use Rattle.tracing_tree_base.specs.declared.context.Id.{Id}
 use Rattle.tracing_tree_base.specs.declared.field.Field.{Field}
 use Rattle.tracing_tree_spans.specs.declared.registry.node.Data.{Data}
 use Rattle.tracing_tree_spans.specs.declared.registry.path.SpanPath.{SpanPath}
-use Rattle.tracing_tree_spans.specs.declared.registry.path.SpanPath.TheVariants.{Short, Long}
 
 -- a live span
 pub record Span : Type 0 where
@@ -38,15 +37,10 @@ printed_span span = record span { kept = record span.kept { written = true } }
 
 -- ---- spans in the form that a registry keeps
 
--- the path of a span, wherever it is kept
-abbrev pub path_ids : SpanPath → List Id
-path_ids (Short path) = path
-path_ids (Long ids) = ids.items
-
--- a live span with its path, from its root down to it, and the number of its children
+-- a live span with its path, and the number of its children
 pub record KeptSpan : Type 0 where
   pub span : Span
-  pub path : List Id
+  pub path : SpanPath
   pub children : ℕ
 
 -- with one handle more

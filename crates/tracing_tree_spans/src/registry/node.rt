@@ -23,8 +23,8 @@ pub struct Data {
     pub written: bool,
 }
 
-// A stored span, with its path from its root down to it and the number of its live children. The
-// fields that clones, records and closes touch come first, close together in memory.
+// A stored span, with its path and the number of its live children. The fields that clones, records
+// and closes touch come first, close together in memory.
 #[derive(Drop)]
 pub(crate) struct Node {
     pub(crate) id: Id,
@@ -38,7 +38,7 @@ pub(crate) struct Node {
 }
 
 impl Model for Node {
-    ghost use Rattle.tracing_tree_spans.specs.Registry.Spans.{KeptSpan, path_ids};
+    ghost use Rattle.tracing_tree_spans.specs.Registry.Spans.{KeptSpan};
 
     ghost Value = { KeptSpan };
 
@@ -51,7 +51,7 @@ impl Model for Node {
         kept = n.kept;
         handles = n.handles;
       };
-      path = path_ids n.path;
+      path = n.path;
       children = n.children;
     } };
 }
@@ -95,10 +95,10 @@ impl Node {
         self.handles == 0 && self.children == 1
     }
 
-    pub(crate) fn path(&self) -> &[Id]
+    pub(crate) fn path(&self) -> &SpanPath
         ensures { result.now ≡ self.now.path }
     {
-        self.path.as_slice()
+        &self.path
     }
 
     pub(crate) fn look(&self) -> SpanRef<'_>
@@ -134,7 +134,7 @@ impl Node {
         self.children += 1;
     }
 
-    pub(crate) fn take_child(&mut self)
+    pub(crate) fn count_down_children(&mut self)
         requires { 0 < self.old.children }
         ensures { self.new ≡ child_less self.old }
     {

@@ -47,16 +47,20 @@ impl Nodes {
         }
     }
 
-    pub(crate) fn allocator(&self) -> Global {
-        *self.slots.allocator()
-    }
-
     // Returns the span with this id.
     pub(crate) fn get(&self, id: Id) -> Option<&Node>
         ensures { option_copied result ≡ kept_at self.now id }
     {
         let at = position(self.slots.as_slice(), id)?;
         self.slots[at].node()
+    }
+
+    // Reserves space for one more span. If an allocation fails, nothing has changed.
+    pub(crate) fn reserve(&mut self) -> Result<(), AllocError>
+        ensures { self.new ≡ self.old }
+    {
+        make_room(&mut self.slots, self.live);
+        self.slots.reserve(1)
     }
 
     // Appends a span with the greatest id. If an allocation fails, nothing has changed.
@@ -66,7 +70,6 @@ impl Nodes {
         ensures few { OnOk result (length self.new < 2 ^ 63) }
         ensures err { OnErr result (self.new ≡ self.old) }
     {
-        make_room(&mut self.slots, self.live);
         self.slots.push(Slot::Live(node))?;
         self.live += 1;
         Ok(())
@@ -106,11 +109,11 @@ impl Nodes {
         self.update(id, |node| node.add_child());
     }
 
-    pub(crate) fn take_child(&mut self, id: Id)
+    pub(crate) fn count_down_children(&mut self, id: Id)
         requires { IfSome (kept_at self.old id) (λ node. 0 < node.children) }
         ensures { self.new ≡ change_kept child_less id self.old }
     {
-        self.update(id, |node| node.take_child());
+        self.update(id, |node| node.count_down_children());
     }
 
     pub(crate) fn set_written(&mut self, id: Id)

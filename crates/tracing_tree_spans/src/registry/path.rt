@@ -1,43 +1,37 @@
 //! The path of a span, as stored with the span.
 
-ghost use Rattle.std.specs.Prelude.{◌≡◌, ◌++◌, ◌∷◌, [], IfOk, IfSome};
-ghost use Rattle.tracing_tree_spans.specs.Registry.Spans.{path_ids};
+ghost use Rattle.std.specs.Prelude.{◌≡◌, ◌++◌, ◌∷◌, [], IfSome};
+ghost use Rattle.tracing_tree_spans.specs.declared.registry.path.SpanPath.TheVariants.{Short};
 
-use std::alloc::{AllocError, Global};
 use std::marker::Model;
 use tracing_tree_base::Id;
 
 // Paths of at most five spans are stored inline in the span's record. Few spans are nested deeper.
 const SHORT: usize = 5;
 
-// A path, root first.
+// A path, root first. A long one is a prefix of a branch.
 #[derive(Drop)]
 pub(crate) enum SpanPath {
     Short(ShortPath),
-    Long(Vec<Id>),
+    Long(Place),
+}
+
+// The first `length` ids of a branch.
+#[derive(Clone, Copy)]
+pub(crate) struct Place {
+    pub(crate) branch: usize,
+    pub(crate) length: usize,
 }
 
 impl SpanPath {
-    // Returns the path of a child of the last of these.
-    pub(crate) fn below(alloc: Global, above: &[Id], id: Id) -> Result<SpanPath, AllocError>
-        ensures { IfOk result (λ path. path_ids path ≡ above.now ++ id ∷ []) }
+    // Returns the path of a root.
+    pub(crate) fn root(id: Id) -> SpanPath
+        ensures { result ≡ Short (id ∷ []) }
     {
-        if let Some(short) = ShortPath::below(above, id) {
-            return Ok(SpanPath::Short(short));
-        }
-        let mut ids = Vec::with_capacity(alloc, above.len() + 1)?;
-        ids.extend_from_slice(above)?;
-        ids.push(id)?;
-        Ok(SpanPath::Long(ids))
-    }
-
-    pub(crate) fn as_slice(&self) -> &[Id]
-        ensures { result.now ≡ path_ids self.now }
-    {
-        match self {
-            SpanPath::Short(path) => path.as_slice(),
-            SpanPath::Long(ids) => ids.as_slice(),
-        }
+        SpanPath::Short(ShortPath {
+            ids: [id; SHORT],
+            length: 1,
+        })
     }
 }
 
@@ -61,7 +55,7 @@ impl Model for ShortPath {
 
 impl ShortPath {
     // Returns the path of a child of the last of these, if it is short enough.
-    fn below(above: &[Id], id: Id) -> Option<ShortPath>
+    pub(crate) fn below(above: &[Id], id: Id) -> Option<ShortPath>
         ensures { IfSome result (λ path. path ≡ above.now ++ id ∷ []) }
     {
         if above.len() >= SHORT {
@@ -75,7 +69,7 @@ impl ShortPath {
         })
     }
 
-    fn as_slice(&self) -> &[Id]
+    pub(crate) fn as_slice(&self) -> &[Id]
         ensures { result.now ≡ self.now }
     {
         &self.ids[..self.length]

@@ -5,12 +5,14 @@ mod surface;
 ghost use Rattle.std.specs.Prelude.{◌≡◌, ◌<◌, ◌++◌, [], ◌∷◌, None, Some, Ok, IfOk, IfSome, IsSome, OnOk, OnErr, Option, option_map, option_copied, reverse, length, false, IsTrue, ◌↔◌};
 ghost use Rattle.std.specs.List.{list_any};
 ghost use Rattle.tracing_tree_spans.specs.Registry.Ids.{id_of};
-ghost use Rattle.tracing_tree_spans.specs.Registry.Forest.{IsForest, IsGrownForest, IsPathIfLive, IsClosing, empty_forest, span_at, is_live, is_child_of, parent_of, any_unless_live, path_of, id_after, closing_of, going_up, without_spans, take_back, unless_handle};
+ghost use Rattle.tracing_tree_spans.specs.Registry.Forest.{IsForest, IsGrownForest, IsPathIfLive, IsClosing, empty_forest, span_at, is_live, is_child_of, parent_of, any_unless_live, path_of, path_of_any, id_after, closing_of, going_up, without_spans, take_back, unless_handle};
 ghost use Rattle.tracing_tree_spans.specs.Registry.Spans.{shown_span};
 ghost use Rattle.tracing_tree_spans.specs.Registry.Lookup.{data_at};
+ghost use Rattle.tracing_tree_spans.specs.Registry.Branches.{path_at, KeepsPaths};
 ghost use Rattle.tracing_tree_spans.specs.Registry.Registered.{IsNewSpan, IsCloned, IsClosed, ListsClosing, AsksLastHandle, listed, IsNewest, IsKept, alone};
-ghost use Rattle.tracing_tree_spans.specs.Registry.Kept.{spans_of, kept_at, kept_path, with_child, without_span, AreBelow, IsTied};
+ghost use Rattle.tracing_tree_spans.specs.Registry.Kept.{spans_of, kept_at, with_child, without_span, AreBelow, CountsChildren, IsTied};
 
+use super::branches::Branches;
 use super::node::Node;
 use super::nodes::Nodes;
 use super::path::SpanPath;
@@ -25,11 +27,12 @@ use tracing_tree_base::{Id, Refusal};
 /// Each span is stored with its path and the number of its children. So a path is available at
 /// once, and a close visits only spans on the path of the span that closes.
 ///
-/// Paths aren't shared, so their memory grows with their depth. A path of at most five spans is
-/// stored inline in the span's record, which takes 256 bytes. A longer one takes eight more bytes
-/// for each of its spans: 80 at depth 10, 800 at depth 100, 8,000 at depth 1,000. The list of
-/// records doubles when it grows. So 100,000 live spans take 34 MB up to depth 5, 400 MB more at
-/// depth 500, and 800 MB more at depth 1,000.
+/// A path of at most five spans is stored inline in the span's record, which takes 256 bytes. Longer
+/// paths share lists of ids. A span's first child adds eight bytes to the list of its parent.
+/// Another child that is live at the same time copies its parent's path: 80 bytes at depth 10, 800
+/// at depth 100. The lists double when they grow, and so does the list of records. So 100,000 live
+/// spans take 34 MB up to depth 5, 35 MB as one chain, and 121 MB as children of one span at depth
+/// 100.
 ///
 /// A child keeps its parent live:
 /// ```rust
@@ -42,6 +45,7 @@ use tracing_tree_base::{Id, Refusal};
 #[derive(Drop)]
 pub struct Registry {
     nodes: Nodes,
+    branches: Branches,
     next: Option<Id>,
 }
 
@@ -54,7 +58,7 @@ impl Model for Registry {
 
     ghost view = { λ r. record { spans = spans_of r.nodes; next = r.next } };
 
-    ghost invariant = { λ r. IsKept (spans_of r.nodes) r.next × IsTied r.nodes };
+    ghost invariant = { λ r. IsKept (spans_of r.nodes) r.next × IsTied r.branches.branches.items r.nodes };
 }
 
 impl Registry {
@@ -71,6 +75,7 @@ impl Registry {
     {
         Registry {
             nodes: Nodes::new(alloc),
+            branches: Branches::new(alloc),
             next: Some(Id(first)),
         }
     }
@@ -101,7 +106,10 @@ impl Registry {
             return Err(Refusal::NotHeld(id));
         }
         let id = self.next.ok_or(Refusal::TooMany)?;
-        let path = SpanPath::below(self.nodes.allocator(), path_at(&self.nodes, parent), id)?;
+
+        // Space for the span is reserved first. So no path is stored for a span that isn't made.
+        self.nodes.reserve()?;
+        let path = add_path(&self.nodes, &mut self.branches, parent, id)?;
         let Attributes {
             name,
             target,
@@ -163,7 +171,8 @@ impl Registry {
         if node.handles() == 0 {
             return Err(Refusal::NotHeld(id));
         }
-        let count = closing_part(&self.nodes, node).len();
+        let path = self.branches.path(node.path());
+        let count = closing_part(&self.nodes, node, path).len();
         Ok(self.close(id, count))
     }
 
@@ -186,7 +195,7 @@ impl Registry {
         ensures { IsClosed id (Ok result) self.old self.new }
     {
         self.nodes.take_handle(id);
-        remove_upward(&mut self.nodes, id, count);
+        remove_upward(&mut self.nodes, &mut self.branches, id, count);
         count > 0
     }
 
@@ -211,7 +220,8 @@ impl Registry {
         if node.handles() == 0 {
             return Err(Refusal::NotHeld(id));
         }
-        let part = closing_part(&self.nodes, node);
+        let path = self.branches.path(node.path());
+        let part = closing_part(&self.nodes, node, path);
         if part.is_empty() {
             return Ok(());
         }
@@ -226,7 +236,7 @@ impl Registry {
         requires { IsNewest id self.old }
         ensures { self.new ≡ take_back id self.old }
     {
-        remove_leaf(&mut self.nodes, id);
+        remove_leaf(&mut self.nodes, &mut self.branches, id);
         self.next = Some(id);
     }
 }
@@ -246,13 +256,21 @@ fn following(id: Id) -> Option<Id>
     id.0.checked_add(1).map(Id)
 }
 
-// Returns the path of a span, which is empty if the span is missing.
-fn path_at(nodes: &Nodes, id: Option<Id>) -> &[Id]
-    ensures { result.now ≡ kept_path nodes.now id }
+// Stores the path of a new span. If an allocation fails, each stored path is unchanged.
+fn add_path(
+    nodes: &Nodes,
+    branches: &mut Branches,
+    parent: Option<Id>,
+    id: Id,
+) -> Result<SpanPath, AllocError>
+    requires tied { IsTied branches.old.branches.items nodes.now }
+    ensures paths { KeepsPaths branches.old.branches.items branches.new.branches.items }
+    ensures path { IfOk result (λ path. path_at branches.new.branches.items path ≡
+        Some (path_of_any (alone (spans_of nodes.now)) parent ++ id ∷ [])) }
 {
-    match id.and_then(|id| nodes.get(id)) {
-        Some(node) => node.path(),
-        None => &[],
+    match parent.and_then(|parent| nodes.get(parent)) {
+        Some(node) => branches.add(node.path(), id),
+        None => Ok(SpanPath::root(id)),
     }
 }
 
@@ -260,7 +278,7 @@ fn path_at(nodes: &Nodes, id: Option<Id>) -> &[Id]
 // has changed.
 fn push_below(nodes: &mut Nodes, parent: Option<Id>, node: Node) -> Result<(), AllocError>
     requires below { AreBelow node.span.id.0 nodes.old }
-    requires tied { IsTied nodes.old }
+    requires counted { CountsChildren nodes.old }
     requires childless { node.children ≡ 0 }
     ensures ok { OnOk result (nodes.new ≡ with_child parent (nodes.old ++ node ∷ [])) }
     ensures err { OnErr result (nodes.new ≡ nodes.old) }
@@ -274,14 +292,14 @@ fn push_below(nodes: &mut Nodes, parent: Option<Id>, node: Node) -> Result<(), A
 
 // Returns the end of a span's path that closes when a handle of the span is dropped. It has the
 // span, its parent, and so on upward, as long as each has no other handle and no other child.
-fn closing_part<'a>(nodes: &Nodes, node: &'a Node) -> &'a [Id]
+fn closing_part<'a>(nodes: &Nodes, node: &Node, path: &'a [Id]) -> &'a [Id]
     requires kept { IsKept (spans_of nodes.now) None }
-    requires tied { IsTied nodes.now }
+    requires counted { CountsChildren nodes.now }
     requires there { kept_at nodes.now node.now.span.id ≡ Some node.now }
     requires held { 0 < node.now.span.handles }
+    requires path { path.now ≡ path_of (alone (spans_of nodes.now)) node.now.span.id }
     ensures { reverse result.now ≡ closing_of (alone (spans_of nodes.now)) node.now.span.id }
 {
-    let path = node.path();
     if !node.is_kept_by_a_handle() {
         return &path[path.len()..];
     }
@@ -301,39 +319,41 @@ fn closing_part<'a>(nodes: &Nodes, node: &'a Node) -> &'a [Id]
 }
 
 // Removes a span without children, and counts it out of its parent's children. Returns the parent.
-fn remove_leaf(nodes: &mut Nodes, id: Id) -> Option<Id>
+fn remove_leaf(nodes: &mut Nodes, branches: &mut Branches, id: Id) -> Option<Id>
     requires kept { IsKept (spans_of nodes.old) None }
-    requires tied { IsTied nodes.old }
+    requires tied { IsTied branches.old.branches.items nodes.old }
     requires childless { list_any (is_child_of id) (spans_of nodes.old) ≡ false }
     ensures parent { result ≡ parent_of (alone (spans_of nodes.old)) id }
     ensures spans { spans_of nodes.new ≡ without_span id (spans_of nodes.old) }
-    ensures tied { IsTied nodes.new }
+    ensures tied { IsTied branches.new.branches.items nodes.new }
 {
-    let parent = nodes.get(id)?.parent();
+    let node = nodes.get(id)?;
+    let parent = node.parent();
+    branches.remove(node.path());
     nodes.remove(id);
     let parent = parent?;
-    nodes.take_child(parent);
+    nodes.count_down_children(parent);
     Some(parent)
 }
 
 // Removes `count` spans: the span with this id, its parent, and so on upward.
-fn remove_upward(nodes: &mut Nodes, id: Id, count: usize)
+fn remove_upward(nodes: &mut Nodes, branches: &mut Branches, id: Id, count: usize)
     requires kept { IsKept (spans_of nodes.old) None }
-    requires tied { IsTied nodes.old }
+    requires tied { IsTied branches.old.branches.items nodes.old }
     requires all { count ≡ length (going_up (alone (spans_of nodes.old)) id) }
     ensures spans { spans_of nodes.new ≡
         (without_spans (going_up (alone (spans_of nodes.old)) id)
         (alone (spans_of nodes.old))).spans }
     ensures kept { (next : Option Id) → IsKept (spans_of nodes.old) next
         → IsKept (spans_of nodes.new) next }
-    ensures tied { IsTied nodes.new }
+    ensures tied { IsTied branches.new.branches.items nodes.new }
 {
     let mut above = Some(id);
     for _ in 0..count {
         let Some(id) = above else {
             break;
         };
-        above = remove_leaf(nodes, id);
+        above = remove_leaf(nodes, branches, id);
     }
 }
 
@@ -364,7 +384,7 @@ impl LookupSpan for Registry {
         ensures grown { IsGrownForest self.now }
     {
         match self.nodes.get(id) {
-            Some(node) => node.path().to_vec(alloc),
+            Some(node) => self.branches.path(node.path()).to_vec(alloc),
             None => Ok(Vec::new(alloc)),
         }
     }
@@ -376,7 +396,7 @@ impl LookupSpan for Registry {
         ensures formed { IsForest self.now }
         ensures grown { IsGrownForest self.now }
     {
-        Some(self.nodes.get(id)?.path())
+        Some(self.branches.path(self.nodes.get(id)?.path()))
     }
 
     fn data(&self, id: Id) -> Option<&Data>

@@ -4,13 +4,13 @@ use Rattle.std.proofs.lemmas.List.{append-nil}
 use Rattle.std.specs.Prelude.{not, ◌&&◌, ◌||◌, bytes_eq, if◌then◌else◌, is_some}
 use Rattle.ttree_source.specs.Marks.{is_empty}
 use Rattle.tracing_tree_base.specs.declared.context.Id.{Id}
-use Rattle.ttree_source.specs.Told.{close_call}
+use Rattle.ttree_source.specs.Calls.{close_call}
 use Rattle.ttree_go_test.specs.declared.go_test.running.Kind.{Kind}
 use Rattle.ttree_go_test.specs.declared.go_test.running.Running.{Running}
 use Rattle.ttree_go_test.specs.declared.go_test.tally.Ending.{Ending}
 use Rattle.ttree_go_test.specs.declared.go_test.tally.Ending.TheVariants.{Passed, Failed, Skipped, Unfinished}
 use Rattle.ttree_go_test.specs.Names.{named}
-use Rattle.ttree_go_test.specs.GoTest.{GoState, Held, above_held, begun, begun_in, counted, elapsed_fields, finished, held, holds, is_framing, kept, left_one, noted_left, only_closed, opened, package_counted, package_over, package_started, part_told, printed, quiet_told, ran, started, string_printed, test_ended, tests_of}
+use Rattle.ttree_go_test.specs.GoTest.{GoState, Held, above_held, begun, begun_in, counted, elapsed_fields, finished, held, holds, is_framing, kept, left_one, noted_left, only_closed, opened, package_counted, package_over, package_started, part_emitted, printed, quiet_emitted, ran, started, string_printed, test_ended, tests_of}
 use Rattle.ttree_go_test.specs.Texts.{own_name}
 use Rattle.ttree_go_test.specs.Printed.{Printed, Shown.NamedEnd, text_of}
 use Rattle.ttree_go_test.proofs.Laws.Printing.{call_sends, Cuts, Finishes, Sends, finished_shows, joined, nil_if_empty, no_cut, none_sent, opened_cut, part_cut, quiet_sends, sent, started_cut, string_cut, then_sends}
@@ -64,7 +64,7 @@ left_finishes ending one s begins = by one.has_begun begins where
 
 pub closed_sends : (span : Option Id) (h : Held) → Sends h.state (only_closed span h) []
 closed_sends None h = none_sent h.state
-closed_sends (Some id) h = call_sends h.one.above (close_call h.state.moment id h.one.above) h.state
+closed_sends (Some id) h = call_sends h.one.parent (close_call h.state.moment id h.one.parent) h.state
 
 -- a package ends at the end of the input
 pub over_finishes : (one : Running) (s : GoState) → (one.has_begun ≡ false → one.part ≡ []) → Finishes (holds one s) (package_over one s)
@@ -138,7 +138,7 @@ not_running path test s w differs = by (named test (tests_of path s)) refl where
       cc
 
 ran_from : (path test : List ℕ) (s : GoState) → IsWell s.packages → (is_empty test ≡ false → pending path test s ≡ []) →
-    Accounts [] s (begun_in path test (started (opened (part_told (held path test s)))))
+    Accounts [] s (begun_in path test (started (opened (part_emitted (held path test s)))))
 ran_from path test s w none = by (is_empty test) refl where
   name : List ℕ
   name = holder path test s
@@ -147,13 +147,13 @@ ran_from path test s w none = by (is_empty test) refl where
   h = held path test s
 
   k : Held
-  k = started (opened (part_told h))
+  k = started (opened (part_emitted h))
 
   first : Accounts [] s (kept k)
   first =
       with_texts (its path name []) [] s (kept k) (λ q m. no_text path name q m)
       (kept_accounts path name [] s h k k.state w (held_holds path test s w)
-      (started_cut [] h (opened (part_told h)) (opened_cut [] h (part_told h) (part_cut h))) (λ not_begun. cc) (λ not_begun. cc) (no_end k.state))
+      (started_cut [] h (opened (part_emitted h)) (opened_cut [] h (part_emitted h) (part_cut h))) (λ not_begun. cc) (λ not_begun. cc) (no_end k.state))
 
   by : (b : Bool) → is_empty test ≡ b → Accounts [] s (if b then kept k else kept (holds (begun path test) (kept k)))
   by true is = first
@@ -193,7 +193,7 @@ ran_accounts path test s w = by (is_empty test || not (bytes_eq (held path test 
   left : GoState
   left = left_one Unfinished h.one h.state
 
-  by : (b : Bool) → (is_empty test || not (bytes_eq h.one.test test)) ≡ b → Accounts [] s (begun_in path test (started (opened (part_told (if b then h else held path test left)))))
+  by : (b : Bool) → (is_empty test || not (bytes_eq h.one.test test)) ≡ b → Accounts [] s (begun_in path test (started (opened (part_emitted (if b then h else held path test left)))))
   by true is = ran_from path test s w (λ full. not_running path test s w (or_true (is_empty test) (bytes_eq h.one.test test) is full))
   by false is =
       let holds_it = held_holds path test s w in
@@ -204,7 +204,7 @@ ran_accounts path test s w = by (is_empty test || not (bytes_eq (held path test 
       ap (λ packages. part_of (found path test packages)) (ends.sends.packages ∙ holds_it.packages)
       ∙ ap (λ n. part_of (found path test (emptied path n s.packages))) itself
       ∙ ap part_of (none_emptied path test s.packages w) in
-      then_accounts [] [] s left (begun_in path test (started (opened (part_told (held path test left))))) first (ran_from path test left first.well (λ _. gone))
+      then_accounts [] [] s left (begun_in path test (started (opened (part_emitted (held path test left))))) first (ran_from path test left first.well (λ _. gone))
 
 -- ---- a test ends
 
@@ -235,20 +235,20 @@ test_accounts ending path test elapsed s w = then_accounts [] [] s at (test_ende
   name : List ℕ
   name = holder path test at
 
-  above : Held
-  above = opened h
+  parent : Held
+  parent = opened h
 
   own : List ℕ
-  own = own_name above.one.test test
+  own = own_name parent.one.test test
 
   quiet : GoState
-  quiet = quiet_told ending own (elapsed_fields elapsed) above.one.span above.state
+  quiet = quiet_emitted ending own (elapsed_fields elapsed) parent.one.span parent.state
 
-  by : (b : Bool) → Accounts [] at (if b then finished ending elapsed h else kept (record above { state = quiet }))
+  by : (b : Bool) → Accounts [] at (if b then finished ending elapsed h else kept (record parent { state = quiet }))
   by true = removed_accounts path name at h (finished ending elapsed h) first.well (held_holds path test at first.well) (finished_shows ending elapsed h)
   by false =
       let is = held_holds path test at first.well in
       let cuts = opened_cut [] h h (no_cut h) in
-      with_texts (its path name []) [] at (kept (holds above.one quiet)) (λ q m. no_text path name q m)
-      (kept_accounts path name [] at h above quiet first.well is cuts (begins_after h above is.begins cuts) (λ not_begun. is.of_package (not_yet h above cuts not_begun))
-      (record { ends = NamedEnd ending own ∷ []; no_line = refl; no_other = refl; sends = quiet_sends ending own (elapsed_fields elapsed) above.one.span above.state }))
+      with_texts (its path name []) [] at (kept (holds parent.one quiet)) (λ q m. no_text path name q m)
+      (kept_accounts path name [] at h parent quiet first.well is cuts (begins_after h parent is.begins cuts) (λ not_begun. is.of_package (not_yet h parent cuts not_begun))
+      (record { ends = NamedEnd ending own ∷ []; no_line = refl; no_other = refl; sends = quiet_sends ending own (elapsed_fields elapsed) parent.one.span parent.state }))

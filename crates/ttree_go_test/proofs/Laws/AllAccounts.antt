@@ -11,11 +11,11 @@ use Rattle.ttree_go_test.specs.declared.go_test.builds.Build.{Build}
 use Rattle.ttree_go_test.specs.declared.go_test.tally.Ending.TheVariants.{Failed}
 use Rattle.tracing_tree_lines.specs.Lines.Spelled.{is_skipped}
 use Rattle.ttree_source.specs.Marks.{after_mark, begins, is_empty}
-use Rattle.ttree_source.specs.Told.{shown}
+use Rattle.ttree_source.specs.Calls.{shown}
 use Rattle.tracing_tree_layer.specs.declared.call.Call.{Call}
 use Rattle.ttree_go_test.specs.Names.{named, without}
 use Rattle.ttree_go_test.specs.Texts.{is_package_frame, up_to_space, without_line_end, ends_word}
-use Rattle.ttree_go_test.specs.GoTest.{GoState, Held, begun, build_last, build_of, build_printed, build_said, build_told, builds_said, built_after, event_told, held, holds, is_aside, kept, level_of_build, level_of_text, more_built, opened, package_ended, said, takes_failure, takes_heading, takes_plain, takes_text, texts_told, told_of_build, without_build, without_heading, Tests, owner_within, tests_of}
+use Rattle.ttree_go_test.specs.GoTest.{GoState, Held, begun, build_last, build_of, build_printed, build_said, build_emitted, builds_said, built_after, event_emitted, held, holds, is_aside, kept, level_of_build, level_of_text, more_built, opened, package_ended, said, takes_failure, takes_heading, takes_plain, takes_text, texts_emitted, emitted_of_build, without_build, without_heading, Tests, owner_within, tests_of}
 use Rattle.ttree_go_test.specs.Printed.{BuildPrint, Printed, Shown, Shown.Line, Shown.End, Shown.NamedEnd, Shown.Built, Shown.Plain, built_by, built_of, is_plain, lines_in, plain_in, plains_in, print_by, shown_message, shown_messages, strings_of, text_by, text_of, unless_blank, messages}
 use Rattle.ttree_go_test.proofs.Laws.Printing.{Sends, event_shows, none_sent, others_in, said_shows, sent, then_sends}
 use Rattle.ttree_go_test.proofs.Laws.Stored.{IsSorted, bytes_same, found_again, found_without, none_without, sorted_put, sorted_without}
@@ -205,7 +205,7 @@ no_plains path [] = refl
 no_plains path (text ∷ later) = no_plains path later
 
 -- these events are of builds
-pub texts_send : (path : List ℕ) (level : Level) (build : Build) (s : GoState) → sent (texts_told level build s) ≡ sent s ++ shown_messages (map (Built path) build.texts)
+pub texts_send : (path : List ℕ) (level : Level) (build : Build) (s : GoState) → sent (texts_emitted level build s) ≡ sent s ++ shown_messages (map (Built path) build.texts)
 unfolding kept held
 texts_send path level build s = (builds_said_show path level build.texts (held build.path [] s)).sent_too
 
@@ -216,13 +216,13 @@ last_sends path build s =
     let all : Held = builds_said Warn build.texts h in
     (closed_sends all.one.span all).sent_too ∙ append-nil (sent all.state) ∙ (builds_said_show path Warn build.texts h).sent_too
 
-texts_builds : (path : List ℕ) (level : Level) (build : Build) (s : GoState) → (texts_told level build s).builds ≡ s.builds
+texts_builds : (path : List ℕ) (level : Level) (build : Build) (s : GoState) → (texts_emitted level build s).builds ≡ s.builds
 unfolding kept held
 texts_builds path level build s = (builds_said_show path level build.texts (held build.path [] s)).builds
 
-told_some : (path : List ℕ) (level : Level) (build : Build) (s : GoState) → named path s.builds ≡ Some build → IsWell s.packages → IsSorted s.builds →
-    All [] [] [] s (texts_told level build (without_build path s))
-told_some path level build s is w ordered =
+emitted_some : (path : List ℕ) (level : Level) (build : Build) (s : GoState) → named path s.builds ≡ Some build → IsWell s.packages → IsSorted s.builds →
+    All [] [] [] s (texts_emitted level build (without_build path s))
+emitted_some path level build s is w ordered =
     let at : GoState = without_build path s in
     let name : List ℕ = holder build.path [] at in
     let h : Held = held build.path [] at in
@@ -248,8 +248,8 @@ told_some path level build s is w ordered =
           ∙ ap (λ p. waiting p s ++ []) (sym (bytes_same q path here))
       by q false here = ap texts_waiting (found_without q path s.builds here) ∙ sym (append-nil (waiting q s))
 
-told_none : (path : List ℕ) (s : GoState) → named path s.builds ≡ None → IsWell s.packages → IsSorted s.builds → All [] [] [] s (without_build path s)
-told_none path s is w ordered = record {
+emitted_none : (path : List ℕ) (s : GoState) → named path s.builds ≡ None → IsWell s.packages → IsSorted s.builds → All [] [] [] s (without_build path s)
+emitted_none path s is w ordered = record {
   items = [];
   cut = λ q m. sym (append-nil (pending q m s));
   sends = sym (append-nil (sent s));
@@ -267,11 +267,11 @@ told_none path s is w ordered = record {
   by q false here = ap texts_waiting (found_without q path s.builds here) ∙ sym (append-nil (waiting q s))
 
 -- what a build printed is reported
-pub build_told_all : (level : Level) (path : List ℕ) (s : GoState) → IsWell s.packages → IsSorted s.builds → All [] [] [] s (build_told level path s)
-build_told_all level path s w ordered = by (named path s.builds) refl where
-  by : (o : Option Build) → named path s.builds ≡ o → All [] [] [] s (told_of_build level o (without_build path s))
-  by None is = told_none path s is w ordered
-  by (Some build) is = told_some path level build s is w ordered
+pub build_emitted_all : (level : Level) (path : List ℕ) (s : GoState) → IsWell s.packages → IsSorted s.builds → All [] [] [] s (build_emitted level path s)
+build_emitted_all level path s w ordered = by (named path s.builds) refl where
+  by : (o : Option Build) → named path s.builds ≡ o → All [] [] [] s (emitted_of_build level o (without_build path s))
+  by None is = emitted_none path s is w ordered
+  by (Some build) is = emitted_some path level build s is w ordered
 
 -- ---- lines that aren't JSON
 
@@ -279,7 +279,7 @@ build_told_all level path s w ordered = by (named path s.builds) refl where
 abbrev plain_if : Bool → List ℕ → List (List ℕ)
 plain_if b line = if b then line ∷ [] else []
 
-event_all : (level : Level) (line : List ℕ) (s : GoState) → IsWell s.packages → IsSorted s.builds → All [] [] (line ∷ []) s (event_told level line [] s.last s)
+event_all : (level : Level) (line : List ℕ) (s : GoState) → IsWell s.packages → IsSorted s.builds → All [] [] (line ∷ []) s (event_emitted level line [] s.last s)
 event_all level line s w ordered =
     let sends = event_shows level line [] s.last s in
     record {
@@ -314,7 +314,7 @@ said_all level path line s w ordered =
 plain_all : (line : List ℕ) (s : GoState) → IsWell s.packages → IsSorted s.builds → All [] [] (plain_if (not (is_package_frame line)) line) s (takes_plain line s)
 plain_all line s w ordered = by (is_package_frame line) (is_aside line s) where
   by : (a b : Bool) → All [] [] (plain_if (not a) line) s
-      (if a then s else if b then event_told (level_of_text line) line [] s.last s else kept (said Error line (opened (held s.building [] s))))
+      (if a then s else if b then event_emitted (level_of_text line) line [] s.last s else kept (said Error line (opened (held s.building [] s))))
   by true b = same_all s s refl refl refl w ordered
   by false true = event_all (level_of_text line) line s w ordered
   by false false = said_all Error s.building line s w ordered
@@ -386,12 +386,12 @@ kept_found path name s h k is like none q m full =
       by false = refl
 
 -- a string is taken by the same test
-pub same_holder : (level : Level) (path test : List ℕ) (s : GoState) → IsWell s.packages → holder path test (build_told level path s) ≡ holder path test s
+pub same_holder : (level : Level) (path test : List ℕ) (s : GoState) → IsWell s.packages → holder path test (build_emitted level path s) ≡ holder path test s
 same_holder level path test s w = by (named path s.builds) where
-  by : (o : Option Build) → holder path test (told_of_build level o (without_build path s)) ≡ holder path test s
+  by : (o : Option Build) → holder path test (emitted_of_build level o (without_build path s)) ≡ holder path test s
   by None = refl
   by (Some build) =
       let at : GoState = without_build path s in
       let h : Held = held build.path [] at in
-      owner_same (tests_of path (texts_told level build at)) (tests_of path s) test (length test) (omega arith)
+      owner_same (tests_of path (texts_emitted level build at)) (tests_of path s) test (length test) (omega arith)
       (λ m full. kept_found build.path (holder build.path [] at) at h (builds_said level build.texts h) (held_holds build.path [] at w) (builds_said_same level build.texts h) refl path m full)

@@ -19,12 +19,12 @@ use Rattle.ttree_go_test.specs.declared.go_test.tally.Ending.TheVariants.{Passed
 use Rattle.tracing_tree_lines.specs.Lines.Spelled.{is_skipped}
 use Rattle.ttree_source.specs.Marks.{is_empty}
 use Rattle.ttree_go_test.specs.Names.{named, without}
-use Rattle.ttree_source.specs.Told.{close_call, event_call, message_field}
+use Rattle.ttree_source.specs.Calls.{close_call, event_call, message_field}
 use Rattle.ttree_go_test.specs.Closing.{ClosesAll, IsAmong, InnerFirst, IsBelow, NamedSpan, NoneBelow, closed, is_end}
 use Rattle.ttree_go_test.specs.Nesting.{ArePlacedCalls}
-use Rattle.ttree_go_test.specs.GoTest.{GoState, Held, Tests, all_left_over, begun, counted, end_fields, event_told, finished, holds, left_as, left_one, left_over, level_of, noted_left, package_counted, package_ended, part_told, placed, running_as, span_ended, span_in, tests_of, told, without_package, word_of, go_takes, nothing_run, moved, ran, build_over, package_started}
+use Rattle.ttree_go_test.specs.GoTest.{GoState, Held, Tests, all_left_over, begun, counted, end_fields, event_emitted, finished, holds, left_as, left_one, left_over, level_of, noted_left, package_counted, package_ended, part_emitted, placed, running_as, span_ended, span_in, tests_of, emitted, without_package, word_of, go_takes, nothing_run, moved, ran, build_over, package_started}
 use Rattle.tracing_tree_base.specs.declared.context.Moment.{Moment}
-use Rattle.ttree_source.specs.Source.{hear}
+use Rattle.ttree_source.specs.Source.{interpret}
 use Rattle.ttree_go_test.proofs.Laws.Reachable.{reached_calls, reached_well}
 use Rattle.ttree_go_test.proofs.Laws.Placing.{part_places}
 use Rattle.ttree_go_test.proofs.Laws.Leaving.{package_without}
@@ -41,13 +41,13 @@ closed_then (Record id fields ∷ a) b = closed_then a b
 closed_then (Event event context ∷ a) b = closed_then a b
 closed_then (Close id context ∷ a) b = ap (λ ids. id ∷ ids) (closed_then a b)
 
-none_closed : (above own : Option Id) (calls : List Call) → ArePlacedCalls above own calls → closed calls ≡ []
-none_closed above own [] h = refl
-none_closed above own (New attributes context ∷ calls) h = none_closed above own calls h.1
-none_closed above own (Clone id ∷ calls) h = absurd h.0
-none_closed above own (Record id fields ∷ calls) h = absurd h.0
-none_closed above own (Event event context ∷ calls) h = none_closed above own calls h.1
-none_closed above own (Close id context ∷ calls) h = absurd h.0
+none_closed : (parent own : Option Id) (calls : List Call) → ArePlacedCalls parent own calls → closed calls ≡ []
+none_closed parent own [] h = refl
+none_closed parent own (New attributes context ∷ calls) h = none_closed parent own calls h.1
+none_closed parent own (Clone id ∷ calls) h = absurd h.0
+none_closed parent own (Record id fields ∷ calls) h = absurd h.0
+none_closed parent own (Event event context ∷ calls) h = none_closed parent own calls h.1
+none_closed parent own (Close id context ∷ calls) h = absurd h.0
 
 -- these calls are added, and close these spans
 record Adds (s t : GoState) (ids : List Id) : Type 0 where
@@ -65,11 +65,11 @@ then_adds s t u a b h k = record {
   closes = closed_then h.more k.more ∙ ap (λ ids. ids ++ closed k.more) h.closes ∙ ap (λ ids. a ++ ids) k.closes;
 }
 
-event_adds : (level : Level) (text : List ℕ) (rest : List Field) (above : Option Id) (s : GoState) → Adds s (event_told level text rest above s) []
-event_adds level text rest above s = by (is_skipped text) where
-  by : (b : Bool) → Adds s (if b then s else told above (event_call s.moment level (message_field text ∷ rest) above) s) []
+event_adds : (level : Level) (text : List ℕ) (rest : List Field) (parent : Option Id) (s : GoState) → Adds s (event_emitted level text rest parent s) []
+event_adds level text rest parent s = by (is_skipped text) where
+  by : (b : Bool) → Adds s (if b then s else emitted parent (event_call s.moment level (message_field text ∷ rest) parent) s) []
   by true = no_adds s
-  by false = record { more = event_call s.moment level (message_field text ∷ rest) above ∷ []; calls = refl; closes = refl }
+  by false = record { more = event_call s.moment level (message_field text ∷ rest) parent ∷ []; calls = refl; closes = refl }
 
 -- ---- an end closes at most the span of its test
 
@@ -80,11 +80,11 @@ one_id (Some id) = id ∷ []
 span_adds : (ending : Ending) (rest : List Field) (span : Option Id) (h : Held) → Adds h.state (span_ended ending rest span h) (one_id span)
 unfolding one_id
 span_adds ending rest (Some id) h =
-    let event : GoState = event_told (level_of ending) (word_of ending) rest (Some id) h.state in
-    let close : Call = close_call h.state.moment id h.one.above in
-    then_adds h.state event (told h.one.above close event) [] (id ∷ []) (event_adds (level_of ending) (word_of ending) rest (Some id) h.state)
+    let event : GoState = event_emitted (level_of ending) (word_of ending) rest (Some id) h.state in
+    let close : Call = close_call h.state.moment id h.one.parent in
+    then_adds h.state event (emitted h.one.parent close event) [] (id ∷ []) (event_adds (level_of ending) (word_of ending) rest (Some id) h.state)
     (record { more = close ∷ []; calls = refl; closes = refl })
-span_adds ending rest None h = event_adds (level_of ending) (word_of ending ++ codes " " ++ h.one.name) rest h.one.above h.state
+span_adds ending rest None h = event_adds (level_of ending) (word_of ending ++ codes " " ++ h.one.name) rest h.one.parent h.state
 
 record ClosesOne (h : Held) (t : GoState) : Type 0 where
   span : Option Id
@@ -93,14 +93,14 @@ record ClosesOne (h : Held) (t : GoState) : Type 0 where
 
 finished_closes : (ending : Ending) (elapsed : Option (List ℕ)) (h : Held) → ClosesOne h (finished ending elapsed h)
 finished_closes ending elapsed h =
-    let last : Held = part_told h in
+    let last : Held = part_emitted h in
     let places = part_places h in
     let rest : List Field = end_fields elapsed last.one in
     record {
       span = last.one.span;
       keeps = places.keeps;
       adds = then_adds h.state last.state (span_ended ending rest last.one.span last) [] (one_id last.one.span)
-          (record { more = places.more; calls = places.calls; closes = none_closed h.one.above last.one.span places.more places.placed })
+          (record { more = places.more; calls = places.calls; closes = none_closed h.one.parent last.one.span places.more places.placed })
           (span_adds ending rest last.one.span last);
     }
 
@@ -372,7 +372,7 @@ package_gone ending path elapsed s w =
 -- ---- after any lines
 
 abbrev after : ℕ → Moment → List (List ℕ) → GoState
-after next moment lines = (hear go_takes (nothing_run next moment) lines).source
+after next moment lines = (interpret go_takes (nothing_run next moment) lines).source
 
 closed_by : (next : ℕ) (moment : Moment) (before : List (List ℕ)) (ending : Ending) (path : List ℕ) (elapsed : Option (List ℕ)) →
     ClosesAll (tests_of path (after next moment before)) (package_ended ending path elapsed (build_over path (after next moment before))).calls

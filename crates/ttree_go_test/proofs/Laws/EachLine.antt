@@ -15,16 +15,16 @@ use Rattle.ttree_go_test.specs.declared.go_test.tally.Ending.TheVariants.{Passed
 use Rattle.tracing_tree_base.specs.declared.style.Level.TheVariants.{Warn, Error}
 use Rattle.ttree_source.specs.Marks.{is_empty}
 use Rattle.ttree_go_test.specs.Names.{named}
-use Rattle.ttree_source.specs.Source.{Heard, calls_of, hear, hear_line, heard_step}
+use Rattle.ttree_source.specs.Source.{Interpreted, calls_of, interpret, interpret_line, interpreted_step}
 use Rattle.ttree_source.specs.Values.{text_at}
-use Rattle.ttree_source.specs.Told.{shown}
+use Rattle.ttree_source.specs.Calls.{shown}
 use Rattle.tracing_tree_base.specs.declared.field.Field.{Field}
-use Rattle.ttree_go_test.specs.GoTest.{GoState, acted, acted_for, all_ended, build_last, build_over, build_printed_if, build_told, builds_told, elapsed_in, ended, go_ends, go_takes, handed_out, kind_in, more_text, moved, nothing_run, package_ended, package_of, package_started, packages_left, printed, printed_if, ran, takes_json, tally_call, tally_fields, test_of, timed, build_printed, takes_text}
+use Rattle.ttree_go_test.specs.GoTest.{GoState, acted, acted_for, all_ended, build_last, build_over, build_printed_if, build_emitted, builds_emitted, elapsed_in, ended, go_ends, go_takes, handed_out, kind_in, more_text, moved, nothing_run, package_ended, package_of, package_started, packages_left, printed, printed_if, ran, takes_json, tally_call, tally_fields, test_of, timed, build_printed, takes_text}
 use Rattle.ttree_go_test.specs.Printed.{Print, Printed, ShowsEachLine, Shown, call_message, field_message, line_in, lines_in, messages, print_in, print_of, print_with, shown_message, shown_messages, text_added, text_by, text_of, texts_added, BuildPrint, Shown.Built, build_prints, build_prints_in, build_prints_with, built_by, built_of, plain_in, plains_in, plain_line, plain_of, print_by, strings_of}
 use Rattle.ttree_go_test.proofs.Laws.Printing.{Sends, sent}
 use Rattle.std.proofs.lemmas.Map.Text.{is_eq-slice_cmp}
 use Rattle.ttree_go_test.proofs.Laws.Stored.{AllAfter, IsSorted, bytes_same, none_after}
-use Rattle.ttree_go_test.proofs.Laws.AllAccounts.{All, build_printed_all, build_told_all, built_items, built_nothing, cut_then, no_lines, no_plains, of_tests, plain_nothing, same_holder, text_all, last_sends, texts_waiting, then_all, waiting}
+use Rattle.ttree_go_test.proofs.Laws.AllAccounts.{All, build_printed_all, build_emitted_all, built_items, built_nothing, cut_then, no_lines, no_plains, of_tests, plain_nothing, same_holder, text_all, last_sends, texts_waiting, then_all, waiting}
 use Rattle.ttree_go_test.proofs.Laws.WellKept.{IsWell}
 use Rattle.ttree_go_test.proofs.Laws.Accounts.{Accounts, holder, lines_then, pending, same_accounts}
 use Rattle.ttree_go_test.proofs.Laws.Actions.{printed_accounts, ran_accounts, started_accounts, test_accounts, text_by_kind}
@@ -117,9 +117,9 @@ module _ (action path : List ℕ) (value : Json) (s : GoState) (w : IsWell s.pac
   a_test_prints (Some string) is other =
       let kind : Kind = kind_in value in
       let test : List ℕ = test_of value in
-      let built : GoState = build_told Warn path s in
+      let built : GoState = build_emitted Warn path s in
       let t : GoState = printed kind path test string built in
-      let first = build_told_all Warn path s w ordered in
+      let first = build_emitted_all Warn path s w ordered in
       let texts : List Printed = text_by_kind kind path (holder path test built) string in
       let print : Print = record { path = path; test = test; kind = kind; string = string } in
       let name : holder path test built ≡ holder path test s = same_holder Warn path test s w in
@@ -129,24 +129,24 @@ module _ (action path : List ℕ) (value : Json) (s : GoState) (w : IsWell s.pac
       (then_all [] texts [] [] [] [] s built t first (of_tests texts built t first.ordered (printed_accounts kind path test string built first.well)))
 
   a_build_fails : (level : Level) (string : Option (List ℕ)) → bytes_eq action (codes "output") ≡ false → bytes_eq action (codes "build-output") ≡ false →
-      All (texts_with string) (builds_with string) [] s (build_told level path s)
+      All (texts_with string) (builds_with string) [] s (build_emitted level path s)
   a_build_fails level string no_output other =
-      convert [] (texts_with string) [] (builds_with string) s (build_told level path s) (no_text_with string no_output) (sym (no_build_print action path string other)) (build_told_all level path s w ordered)
+      convert [] (texts_with string) [] (builds_with string) s (build_emitted level path s) (no_text_with string no_output) (sym (no_build_print action path string other)) (build_emitted_all level path s w ordered)
 
   a_test_moves : (string : Option (List ℕ)) → bytes_eq action (codes "output") ≡ false → bytes_eq action (codes "build-output") ≡ false →
-      All (texts_with string) (builds_with string) [] s (moved action path (test_of value) (elapsed_in value) (build_told Warn path s))
+      All (texts_with string) (builds_with string) [] s (moved action path (test_of value) (elapsed_in value) (build_emitted Warn path s))
   a_test_moves string no_output other =
-      let built : GoState = build_told Warn path s in
+      let built : GoState = build_emitted Warn path s in
       let t : GoState = moved action path (test_of value) (elapsed_in value) built in
-      let first = build_told_all Warn path s w ordered in
+      let first = build_emitted_all Warn path s w ordered in
       convert [] (texts_with string) [] (builds_with string) s t (no_text_with string no_output) (sym (no_build_print action path string other))
       (then_all [] [] [] [] [] [] s built t first (of_tests [] built t first.ordered (moved_accounts action path (test_of value) (elapsed_in value) built first.well)))
 
   acted_all : AllIf (texts_with output) (builds_with output) s (acted action path (test_of value) value s)
   acted_all = by (bytes_eq action (codes "build-output")) refl (bytes_eq action (codes "output")) refl (bytes_eq action (codes "build-fail")) where
     by : (a : Bool) → bytes_eq action (codes "build-output") ≡ a → (b : Bool) → bytes_eq action (codes "output") ≡ b → (c : Bool) → AllIf (texts_with output) (builds_with output) s
-        (if a then build_printed_if path output s else if b then printed_if (kind_in value) path (test_of value) output s else if c then Some (build_told Error path s)
-        else Some (moved action path (test_of value) (elapsed_in value) (build_told Warn path s)))
+        (if a then build_printed_if path output s else if b then printed_if (kind_in value) path (test_of value) output s else if c then Some (build_emitted Error path s)
+        else Some (moved action path (test_of value) (elapsed_in value) (build_emitted Warn path s)))
     by true is b other c = a_build_prints output is
     by false is true other c = a_test_prints output other is
     by false is false other true = a_build_fails Error output other is
@@ -198,27 +198,27 @@ handed_all texts builds plains s t no_calls h = record {
 }
 
 handed_runs : (texts : List Printed) (builds : List BuildPrint) (value : Json) (s : GoState) (o : Option GoState) → s.calls ≡ [] → IsWell s.packages → IsSorted s.builds → AllIf texts builds (timed value s) o →
-    Runs texts builds [] s (heard_step s (option_map handed_out o)).source (heard_step s (option_map handed_out o)).calls
+    Runs texts builds [] s (interpreted_step s (option_map handed_out o)).source (interpreted_step s (option_map handed_out o)).calls
 handed_runs texts builds value s None no_calls w ordered h = still_runs texts builds s h.0 h.1 no_calls w ordered
 handed_runs texts builds value s (Some t) no_calls w ordered h =
     let all = handed_all texts builds [] (timed value s) t no_calls h in
     record { items = all.items; cut = all.cut; events = all.events; built = all.built; plain = all.plain; no_calls = all.no_calls; well = all.well; ordered = all.ordered }
 
 value_runs : (line : List ℕ) (s : GoState) (o : Option Json) → s.calls ≡ [] → IsWell s.packages → IsSorted s.builds →
-    Runs (text_added s (option_and_then print_in o)) (build_prints_in o) (plain_of line o) s (heard_step s (go_takes s line o)).source (heard_step s (go_takes s line o)).calls
+    Runs (text_added s (option_and_then print_in o)) (build_prints_in o) (plain_of line o) s (interpreted_step s (go_takes s line o)).source (interpreted_step s (go_takes s line o)).calls
 value_runs line s None no_calls w ordered = handed_all [] [] (plain_of line None) s (takes_text line s) no_calls (text_all line s w ordered)
 value_runs line s (Some value) no_calls w ordered =
     handed_runs (text_added s (print_in value)) (build_prints_in (Some value)) value s (takes_json value (timed value s)) no_calls w ordered
     (json_all (text_at (codes "Action") value) (package_of value) value (timed value s) w ordered)
 
 line_runs : (line : List ℕ) (s : GoState) → s.calls ≡ [] → IsWell s.packages → IsSorted s.builds →
-    Runs (text_added s (print_of line)) (build_prints line) (plain_line line) s (hear_line go_takes s line).source (hear_line go_takes s line).calls
+    Runs (text_added s (print_of line)) (build_prints line) (plain_line line) s (interpret_line go_takes s line).source (interpret_line go_takes s line).calls
 line_runs line s no_calls w ordered = by (is_utf8 line) where
-  heard : Bool → Heard GoState
-  heard b = if b then heard_step s (go_takes s line (document line)) else heard_step s None
+  interpreted : Bool → Interpreted GoState
+  interpreted b = if b then interpreted_step s (go_takes s line (document line)) else interpreted_step s None
 
   by : (b : Bool) → Runs (text_added s (if b then option_and_then print_in (document line) else None)) (if b then build_prints_in (document line) else [])
-      (if b then plain_of line (document line) else []) s (heard b).source (heard b).calls
+      (if b then plain_of line (document line) else []) s (interpreted b).source (interpreted b).calls
   by true = value_runs line s (document line) no_calls w ordered
   by false = still_runs [] [] s (λ q m. refl) refl no_calls w ordered
 
@@ -245,14 +245,14 @@ then_runs a b c d e f s t u one two h k = record {
 }
 
 lines_run : (lines : List (List ℕ)) (s : GoState) → s.calls ≡ [] → IsWell s.packages → IsSorted s.builds →
-    Runs (texts_added s lines) (flat_map build_prints lines) (flat_map plain_line lines) s (hear go_takes s lines).source (hear go_takes s lines).calls
+    Runs (texts_added s lines) (flat_map build_prints lines) (flat_map plain_line lines) s (interpret go_takes s lines).source (interpret go_takes s lines).calls
 lines_run [] s no_calls w ordered = still_runs [] [] s (λ q m. refl) refl no_calls w ordered
 lines_run (line ∷ lines) s no_calls w ordered =
-    let heard : Heard GoState = hear_line go_takes s line in
-    let rest : Heard GoState = hear go_takes heard.source lines in
+    let interpreted : Interpreted GoState = interpret_line go_takes s line in
+    let rest : Interpreted GoState = interpret go_takes interpreted.source lines in
     let first = line_runs line s no_calls w ordered in
-    then_runs (text_added s (print_of line)) (texts_added heard.source lines) (build_prints line) (flat_map build_prints lines) (plain_line line) (flat_map plain_line lines)
-    s heard.source rest.source heard.calls rest.calls first (lines_run lines heard.source first.no_calls first.well first.ordered)
+    then_runs (text_added s (print_of line)) (texts_added interpreted.source lines) (build_prints line) (flat_map build_prints lines) (plain_line line) (flat_map plain_line lines)
+    s interpreted.source rest.source interpreted.calls rest.calls first (lines_run lines interpreted.source first.no_calls first.well first.ordered)
 
 -- ---- the end
 
@@ -289,7 +289,7 @@ one_and q path build others after =
           ∙ ap (λ b. texts_waiting (cond b (Some build) (named q others))) (sym is)
       by false is = ap (λ b. texts_waiting (cond b (Some build) (named q others))) (sym is)
 
-builds_show : (builds : List (List ℕ × Build)) (s : GoState) → IsSorted builds → BuildsShow builds s (builds_told builds s)
+builds_show : (builds : List (List ℕ × Build)) (s : GoState) → IsSorted builds → BuildsShow builds s (builds_emitted builds s)
 builds_show [] s h = record { items = []; built = λ q. refl; no_line = refl; no_plain = refl; sends = sym (append-nil (sent s)) }
 builds_show ((path, build) ∷ others) s h =
     let at : GoState = build_last build s in
@@ -341,12 +341,12 @@ pub each_line_shown : (next : ℕ) (moment : Moment) (lines : List (List ℕ)) �
     ShowsEachLine (texts_added (nothing_run next moment) lines) (flat_map build_prints lines) (flat_map plain_line lines) (calls_of go_takes go_ends (nothing_run next moment) lines)
 each_line_shown next moment lines =
     let begins : GoState = nothing_run next moment in
-    let heard : Heard GoState = hear go_takes begins lines in
+    let interpreted : Interpreted GoState = interpret go_takes begins lines in
     let run = lines_run lines begins refl (record { all = tt; sorted = tt }) tt in
-    let end = end_shows heard.source run.no_calls run.well run.ordered in
+    let end = end_shows interpreted.source run.no_calls run.well run.ordered in
     record {
       items = run.items ++ end.items;
-      events = messages_then heard.calls (go_ends heard.source) run.items end.items run.events end.events;
+      events = messages_then interpreted.calls (go_ends interpreted.source) run.items end.items run.events end.events;
       printed_once = λ q m. lines_then q m run.items end.items ∙ ap (λ text. text_of q m (lines_in run.items) ++ text) (end.text q m) ∙ run.cut q m;
       built_once = λ q. flat_map-append (built_by q) run.items end.items ∙ ap (λ x. built_of q run.items ++ x) (end.built q) ∙ run.built q;
       plain_once = flat_map-append plain_in run.items end.items ∙ ap (λ x. plains_in run.items ++ x) end.plain ∙ append-nil (plains_in run.items) ∙ run.plain;

@@ -138,9 +138,9 @@ inside_at test k (b ∷ rest) is ends low high no_rest =
 
 -- among others than the test itself
 abbrev IsParentBy : Tests → Option Id → List ℕ → Option Id → Type 0
-IsParentBy others root test above =
-    ((outer : List ℕ) × (span : Id) × IsNearest others test outer span × (above ≡ Some span))
-    ⊎ (IsAlone others test × (above ≡ root))
+IsParentBy others root test parent =
+    ((outer : List ℕ) × (span : Id) × IsNearest others test outer span × (parent ≡ Some span))
+    ⊎ (IsAlone others test × (parent ≡ root))
 
 parent_by : (others : Tests) (root : Option Id) (test : List ℕ) (r : Option Running) → named test others ≡ None → Within others test (length test) r →
     IsParentBy others root test (span_of root r)
@@ -179,8 +179,8 @@ nil_differs : (test : List ℕ) → is_empty test ≡ false → bytes_eq [] test
 nil_differs [] h = let k : true ≡ false = h in cc
 nil_differs (b ∷ test) h = refl
 
-parent_among : (tests : Tests) (test : List ℕ) (above : Option Id) → is_empty test ≡ false → IsParentBy (without test tests) (span_in (without test tests) []) test above → IsParent tests test above
-parent_among tests test above full (inl (outer, span, near, is)) = inl (
+parent_among : (tests : Tests) (test : List ℕ) (parent : Option Id) → is_empty test ≡ false → IsParentBy (without test tests) (span_in (without test tests) []) test parent → IsParent tests test parent
+parent_among tests test parent full (inl (outer, span, near, is)) = inl (
   outer,
   span,
   record {
@@ -190,7 +190,7 @@ parent_among tests test above full (inl (outer, span, near, is)) = inl (
   },
   is,
 )
-parent_among tests test above full (inr (alone, is)) =
+parent_among tests test parent full (inr (alone, is)) =
     inr (
       λ outer inside. sym (ap span_of_it (found_without outer test tests (differs_in test outer inside))) ∙ alone outer inside,
       is ∙ ap span_of_it (found_without [] test tests (nil_differs test full)),
@@ -198,7 +198,7 @@ parent_among tests test above full (inr (alone, is)) =
 
 -- What is taken out for a test is nested in its nearest running ancestor that has a span.
 pub nested_in : (path test : List ℕ) (s : GoState) → IsWell s.packages → is_empty (holder path test s) ≡ false →
-    IsParent (tests_of path s) (holder path test s) (held path test s).one.above
+    IsParent (tests_of path s) (holder path test s) (held path test s).one.parent
 unfolding held
 nested_in path test s w full =
     let name : List ℕ = holder path test s in
@@ -212,7 +212,7 @@ nested_in path test s w full =
     (subst P (sym is) (parent_by others root name (outer_within others name (length name)) (none_without name tests (well_found path s.packages w).sorted) (within others name (length name))))
 
 -- A package is at the root.
-pub package_place : (path test : List ℕ) (s : GoState) → IsWell s.packages → is_empty (holder path test s) ≡ true → (held path test s).one.above ≡ None
+pub package_place : (path test : List ℕ) (s : GoState) → IsWell s.packages → is_empty (holder path test s) ≡ true → (held path test s).one.parent ≡ None
 unfolding held
 package_place path test s w empty =
     let tests : Tests = tests_of path s in

@@ -6,20 +6,20 @@ use Rattle.ttree_go_test.specs.declared.go_test.tally.Ending.TheVariants.{Unfini
 use Rattle.ttree_source.specs.Marks.{is_empty}
 use Rattle.ttree_go_test.specs.Names.{named}
 use Rattle.ttree_go_test.specs.Nesting.{IsPlace, PlacesCalls}
-use Rattle.ttree_go_test.specs.GoTest.{GoState, Held, Tests, above_held, begun_in, held, left_one, opened, part_told, printed, ran, started, tests_of, go_takes, nothing_run, kind_in}
+use Rattle.ttree_go_test.specs.GoTest.{GoState, Held, Tests, above_held, begun_in, held, left_one, opened, part_emitted, printed, ran, started, tests_of, go_takes, nothing_run, kind_in}
 use Rattle.ttree_go_test.proofs.Laws.Accounts.{held_holds, holder}
 use Rattle.ttree_go_test.proofs.Laws.NestedIn.{nested_in, package_place, takes_printed}
 use Rattle.tracing_tree_base.specs.declared.context.Moment.{Moment}
 use Rattle.json.specs.Json.{Json}
-use Rattle.ttree_source.specs.Source.{hear}
+use Rattle.ttree_source.specs.Source.{interpret}
 use Rattle.ttree_go_test.proofs.Laws.Reachable.{reached_well}
 use Rattle.ttree_go_test.proofs.Laws.Placing.{opens_in, prints_in}
 use Rattle.ttree_go_test.proofs.Laws.Stored.{bytes_same}
 use Rattle.ttree_go_test.proofs.Laws.WellKept.{IsWell, owner_runs}
 
-place_is : (path test : List ℕ) (s : GoState) → IsWell s.packages → IsPlace (tests_of path s) (holder path test s) (held path test s).one.above
+place_is : (path test : List ℕ) (s : GoState) → IsWell s.packages → IsPlace (tests_of path s) (holder path test s) (held path test s).one.parent
 place_is path test s w = by (is_empty (holder path test s)) refl where
-  by : (b : Bool) → is_empty (holder path test s) ≡ b → IsPlace (tests_of path s) (holder path test s) (held path test s).one.above
+  by : (b : Bool) → is_empty (holder path test s) ≡ b → IsPlace (tests_of path s) (holder path test s) (held path test s).one.parent
   by true is = inl (is, package_place path test s w is)
   by false is = inr (is, nested_in path test s w is)
 
@@ -30,7 +30,7 @@ printed_places kind path test text s w =
     record {
       name = holder path test s;
       takes = takes_printed (tests_of path s) test;
-      above = (held path test s).one.above;
+      parent = (held path test s).one.parent;
       place = place_is path test s w;
       calls = prints.more;
       adds = prints.calls;
@@ -47,11 +47,11 @@ ran_places path test s w none =
     let is = held_holds path test s w in
     let opens = opens_in path test s w (differs (bytes_eq name test) refl) in
     let stays : (is_empty test || not (bytes_eq h.one.test test)) ≡ true = first (is_empty test) refl in
-    let P : Bool → Type 0 = λ b. PlacesCalls path test s (begun_in path test (started (opened (part_told (if b then h else held path test (left_one Unfinished h.one h.state)))))) in
+    let P : Bool → Type 0 = λ b. PlacesCalls path test s (begun_in path test (started (opened (part_emitted (if b then h else held path test (left_one Unfinished h.one h.state)))))) in
     subst P (sym stays) (record {
       name = name;
       takes = takes_printed tests test;
-      above = h.one.above;
+      parent = h.one.parent;
       place = place_is path test s w;
       calls = opens.more;
       adds = opens.calls;
@@ -74,7 +74,7 @@ ran_places path test s w none =
 -- ---- after any lines
 
 abbrev after : ℕ → Moment → List (List ℕ) → GoState
-after next moment lines = (hear go_takes (nothing_run next moment) lines).source
+after next moment lines = (interpret go_takes (nothing_run next moment) lines).source
 
 pub printed_after : (next : ℕ) (moment : Moment) (before : List (List ℕ)) (value : Json) (path test text : List ℕ) →
     PlacesCalls path test (after next moment before) (printed (kind_in value) path test text (after next moment before))

@@ -10,10 +10,10 @@ use Rattle.ttree_go_test.specs.declared.go_test.running.Kind.{Kind}
 use Rattle.ttree_go_test.specs.declared.go_test.running.Running.{Running}
 use Rattle.tracing_tree_lines.specs.Lines.Spelled.{is_skipped}
 use Rattle.ttree_source.specs.Marks.{is_empty}
-use Rattle.ttree_source.specs.Told.{event_call, message_field, span_call}
+use Rattle.ttree_source.specs.Calls.{event_call, message_field, span_call}
 use Rattle.ttree_go_test.specs.Texts.{ends_line, is_frame, without_line_end}
 use Rattle.ttree_go_test.specs.Nesting.{ArePlacedCalls, IsPlacedCall}
-use Rattle.ttree_go_test.specs.GoTest.{GoState, Held, begun, begun_in, fails_as, frame_printed, framed, held, holds, is_framing, kept, level_of_line, line_of, line_told, more_printed, noted, opened, opened_as, part_told, printed, said, span_in, started, string_printed, tests_of, text_printed, told}
+use Rattle.ttree_go_test.specs.GoTest.{GoState, Held, begun, begun_in, fails_as, frame_printed, framed, held, holds, is_framing, kept, level_of_line, line_of, line_emitted, more_printed, noted, opened, opened_as, part_emitted, printed, said, span_in, started, string_printed, tests_of, text_printed, emitted}
 use Rattle.ttree_go_test.proofs.Laws.Accounts.{Holds, held_holds, holder, started_holds}
 use Rattle.ttree_go_test.proofs.Laws.Printing.{opened_cut, part_cut, started_cut, string_cut}
 use Rattle.ttree_go_test.proofs.Laws.Stored.{same_bytes}
@@ -23,44 +23,44 @@ use Rattle.ttree_go_test.proofs.Laws.WellKept.{IsWell, emptied, filled, found, f
 pub record Places (h k : Held) : Type 0 where
   pub more : List Call
   pub calls : k.state.calls ≡ h.state.calls ++ more
-  pub above : k.one.above ≡ h.one.above
+  pub parent : k.one.parent ≡ h.one.parent
   pub keeps : is_some h.one.span ≡ true → k.one.span ≡ h.one.span
-  pub placed : ArePlacedCalls h.one.above k.one.span more
+  pub placed : ArePlacedCalls h.one.parent k.one.span more
 
-later_call : (above own later : Option Id) (call : Call) → (is_some own ≡ true → later ≡ own) → IsPlacedCall above own call → IsPlacedCall above later call
-later_call above own later (New attributes context) keeps h = h
-later_call above own later (Event event context) keeps h = (h.0 ∙ sym (keeps h.1), ap is_some (keeps h.1) ∙ h.1)
-later_call above own later (Clone id) keeps h = h
-later_call above own later (Record id fields) keeps h = h
-later_call above own later (Close id context) keeps h = h
+later_call : (parent own later : Option Id) (call : Call) → (is_some own ≡ true → later ≡ own) → IsPlacedCall parent own call → IsPlacedCall parent later call
+later_call parent own later (New attributes context) keeps h = h
+later_call parent own later (Event event context) keeps h = (h.0 ∙ sym (keeps h.1), ap is_some (keeps h.1) ∙ h.1)
+later_call parent own later (Clone id) keeps h = h
+later_call parent own later (Record id fields) keeps h = h
+later_call parent own later (Close id context) keeps h = h
 
-placed_later : (above own later : Option Id) (calls : List Call) → (is_some own ≡ true → later ≡ own) → ArePlacedCalls above own calls → ArePlacedCalls above later calls
-placed_later above own later [] keeps h = tt
-placed_later above own later (call ∷ calls) keeps h = (later_call above own later call keeps h.0, placed_later above own later calls keeps h.1)
+placed_later : (parent own later : Option Id) (calls : List Call) → (is_some own ≡ true → later ≡ own) → ArePlacedCalls parent own calls → ArePlacedCalls parent later calls
+placed_later parent own later [] keeps h = tt
+placed_later parent own later (call ∷ calls) keeps h = (later_call parent own later call keeps h.0, placed_later parent own later calls keeps h.1)
 
-placed_both : (above own : Option Id) (a b : List Call) → ArePlacedCalls above own a → ArePlacedCalls above own b → ArePlacedCalls above own (a ++ b)
-placed_both above own [] b h k = k
-placed_both above own (call ∷ a) b h k = (h.0, placed_both above own a b h.1 k)
+placed_both : (parent own : Option Id) (a b : List Call) → ArePlacedCalls parent own a → ArePlacedCalls parent own b → ArePlacedCalls parent own (a ++ b)
+placed_both parent own [] b h k = k
+placed_both parent own (call ∷ a) b h k = (h.0, placed_both parent own a b h.1 k)
 
 stays : (h : Held) → Places h h
-stays h = record { more = []; calls = sym (append-nil h.state.calls); above = refl; keeps = λ _. refl; placed = tt }
+stays h = record { more = []; calls = sym (append-nil h.state.calls); parent = refl; keeps = λ _. refl; placed = tt }
 
 then_places : (h k l : Held) → Places h k → Places k l → Places h l
 then_places h k l a b = record {
   more = a.more ++ b.more;
   calls = b.calls ∙ ap (λ calls. calls ++ b.more) a.calls ∙ append_assoc h.state.calls a.more b.more;
-  above = b.above ∙ a.above;
+  parent = b.parent ∙ a.parent;
   keeps = λ some. b.keeps (ap is_some (a.keeps some) ∙ some) ∙ a.keeps some;
-  placed = placed_both h.one.above l.one.span a.more b.more (placed_later h.one.above k.one.span l.one.span a.more b.keeps a.placed)
-      (let P : Option Id → Type 0 = λ above. ArePlacedCalls above l.one.span b.more in subst P a.above b.placed);
+  placed = placed_both h.one.parent l.one.span a.more b.more (placed_later h.one.parent k.one.span l.one.span a.more b.keeps a.placed)
+      (let P : Option Id → Type 0 = λ parent. ArePlacedCalls parent l.one.span b.more in subst P a.parent b.placed);
 }
 
 opened_by : (h : Held) (span : Option Id) → h.one.span ≡ span → Places h (opened_as span h)
 opened_by h (Some id) is = stays h
 opened_by h None is = record {
-  more = span_call h.state.moment h.one.name [] h.one.above ∷ [];
+  more = span_call h.state.moment h.one.name [] h.one.parent ∷ [];
   calls = refl;
-  above = refl;
+  parent = refl;
   keeps = λ some. let e : false ≡ true = sym (ap is_some is) ∙ some in cc;
   placed = (refl, tt);
 }
@@ -76,18 +76,18 @@ has_span h = by h.one.span refl where
 
 said_places : (level : Level) (text : List ℕ) (h : Held) → is_some h.one.span ≡ true → Places h (said level text h)
 said_places level text h some = by (is_skipped text) where
-  by : (b : Bool) → Places h (record h { state = if b then h.state else told h.one.span (event_call h.state.moment level (message_field text ∷ []) h.one.span) h.state })
+  by : (b : Bool) → Places h (record h { state = if b then h.state else emitted h.one.span (event_call h.state.moment level (message_field text ∷ []) h.one.span) h.state })
   by true = stays h
   by false = record {
     more = event_call h.state.moment level (message_field text ∷ []) h.one.span ∷ [];
     calls = refl;
-    above = refl;
+    parent = refl;
     keeps = λ _. refl;
     placed = ((refl, some), tt);
   }
 
 framed_by : (b : Bool) (line : List ℕ) (h : Held) → Places h (if b then record h { one = noted line h.one } else h)
-framed_by true line h = record { more = []; calls = sym (append-nil h.state.calls); above = refl; keeps = λ _. refl; placed = tt }
+framed_by true line h = record { more = []; calls = sym (append-nil h.state.calls); parent = refl; keeps = λ _. refl; placed = tt }
 framed_by false line h = stays h
 
 framed_places : (line : List ℕ) (h : Held) → Places h (framed line h)
@@ -102,17 +102,17 @@ line_places level text h = by (is_frame h.one.test (without_line_end text)) wher
   by true = framed_places line h
   by false = then_places h (opened h) (said level line (opened h)) (opened_places h) (said_places level line (opened h) (has_span h))
 
-told_places : (h : Held) → Places h (line_told h)
-told_places h =
+emitted_places : (h : Held) → Places h (line_emitted h)
+emitted_places h =
     let bare : Held = record h { one = record h.one { part = []; is_error = false } } in
     let line = line_places (level_of_line h.one.is_error) h.one.part bare in
-    record { more = line.more; calls = line.calls; above = line.above; keeps = line.keeps; placed = line.placed }
+    record { more = line.more; calls = line.calls; parent = line.parent; keeps = line.keeps; placed = line.placed }
 
-pub part_places : (h : Held) → Places h (part_told h)
+pub part_places : (h : Held) → Places h (part_emitted h)
 part_places h = by (is_empty h.one.part) where
-  by : (b : Bool) → Places h (if b then h else line_told h)
+  by : (b : Bool) → Places h (if b then h else line_emitted h)
   by true = stays h
-  by false = told_places h
+  by false = emitted_places h
 
 text_places : (is_error : Bool) (text : List ℕ) (h : Held) → Places h (text_printed is_error text h)
 text_places is_error text h = by (ends_line text) where
@@ -120,16 +120,16 @@ text_places is_error text h = by (ends_line text) where
   more = more_printed is_error text h
 
   first : Places h more
-  first = record { more = []; calls = sym (append-nil h.state.calls); above = refl; keeps = λ _. refl; placed = tt }
+  first = record { more = []; calls = sym (append-nil h.state.calls); parent = refl; keeps = λ _. refl; placed = tt }
 
-  by : (b : Bool) → Places h (if b then line_told more else more)
-  by true = then_places h more (line_told more) first (told_places more)
+  by : (b : Bool) → Places h (if b then line_emitted more else more)
+  by true = then_places h more (line_emitted more) first (emitted_places more)
   by false = first
 
 string_places : (kind : Kind) (text : List ℕ) (h : Held) → Places h (string_printed kind text h)
 string_places kind text h = by (is_framing kind h.one.test text) where
   by : (b : Bool) → Places h (if b then frame_printed text h else text_printed (fails_as kind) text h)
-  by true = then_places h (part_told h) (frame_printed text h) (part_places h) (framed_places (without_line_end text) (part_told h))
+  by true = then_places h (part_emitted h) (frame_printed text h) (part_places h) (framed_places (without_line_end text) (part_emitted h))
   by false = text_places (fails_as kind) text h
 
 abbrev span_of_it : Option Running → Option Id
@@ -137,10 +137,10 @@ span_of_it o = option_and_then (λ (one : Running). one.span) o
 
 -- The calls of a string: the span of what takes it opens in its parent, and the lines are events in
 -- that span.
-pub record PrintsIn (path name : List ℕ) (above : Option Id) (s t : GoState) : Type 0 where
+pub record PrintsIn (path name : List ℕ) (parent : Option Id) (s t : GoState) : Type 0 where
   pub more : List Call
   pub calls : t.calls ≡ s.calls ++ more
-  pub placed : ArePlacedCalls above (span_in (tests_of path t) name) more
+  pub placed : ArePlacedCalls parent (span_in (tests_of path t) name) more
 
 -- the span of what is put back
 kept_span : (path name : List ℕ) (s : GoState) (h k : Held) → Holds path name s h → k.one.path ≡ h.one.path → k.one.test ≡ h.one.test → k.state.packages ≡ h.state.packages →
@@ -156,7 +156,7 @@ kept_span path name s h k is same_path same_test same_packages =
     ∙ ap (λ b. span_of_it (if b then Some k.one else found path name s.packages)) (same_bytes name name refl)
 
 pub prints_in : (kind : Kind) (path test text : List ℕ) (s : GoState) → IsWell s.packages →
-    PrintsIn path (holder path test s) (held path test s).one.above s (printed kind path test text s)
+    PrintsIn path (holder path test s) (held path test s).one.parent s (printed kind path test text s)
 unfolding kept held
 prints_in kind path test text s w =
     let name : List ℕ = holder path test s in
@@ -166,7 +166,7 @@ prints_in kind path test text s w =
     let cuts = string_cut kind text h in
     let places = string_places kind text h in
     let own : span_in (tests_of path (kept k)) name ≡ k.one.span = kept_span path name s h k is cuts.path cuts.test cuts.sends.packages in
-    let P : Option Id → Type 0 = λ span. ArePlacedCalls h.one.above span places.more in
+    let P : Option Id → Type 0 = λ span. ArePlacedCalls h.one.parent span places.more in
     record { more = places.more; calls = places.calls; placed = subst P (sym own) places.placed }
 
 -- another test starts after it
@@ -182,18 +182,18 @@ other_span path name test s differs =
 
 -- what is open when a test starts
 pub opens_in : (path test : List ℕ) (s : GoState) → IsWell s.packages → (is_empty test ≡ false → bytes_eq (holder path test s) test ≡ false) →
-    PrintsIn path (holder path test s) (held path test s).one.above s (begun_in path test (started (opened (part_told (held path test s)))))
+    PrintsIn path (holder path test s) (held path test s).one.parent s (begun_in path test (started (opened (part_emitted (held path test s)))))
 unfolding kept held
 opens_in path test s w differs =
     let name : List ℕ = holder path test s in
     let h : Held = held path test s in
-    let k : Held = started (opened (part_told h)) in
+    let k : Held = started (opened (part_emitted h)) in
     let is = held_holds path test s w in
-    let cuts = started_cut [] h (opened (part_told h)) (opened_cut [] h (part_told h) (part_cut h)) in
-    let places = then_places h (part_told h) (opened (part_told h)) (part_places h) (opened_places (part_told h)) in
+    let cuts = started_cut [] h (opened (part_emitted h)) (opened_cut [] h (part_emitted h) (part_cut h)) in
+    let places = then_places h (part_emitted h) (opened (part_emitted h)) (part_places h) (opened_places (part_emitted h)) in
     let own : span_in (tests_of path (kept k)) name ≡ k.one.span = kept_span path name s h k is cuts.path cuts.test cuts.sends.packages in
     let t : GoState = begun_in path test k in
-    let P : Option Id → Type 0 = λ span. ArePlacedCalls h.one.above span places.more in
+    let P : Option Id → Type 0 = λ span. ArePlacedCalls h.one.parent span places.more in
     record {
       more = places.more;
       calls = same_calls (is_empty test) k ∙ places.calls;

@@ -10,13 +10,13 @@ use Rattle.tracing_tree_base.specs.declared.style.Level.{Level}
 use Rattle.tracing_tree_layer.specs.declared.call.Call.{Call}
 use Rattle.tracing_tree_lines.specs.Lines.Spelled.{is_skipped}
 use Rattle.ttree_source.specs.Marks.{is_empty}
-use Rattle.ttree_source.specs.Told.{close_call, event_call, message_field, shown, span_call}
+use Rattle.ttree_source.specs.Calls.{close_call, event_call, message_field, shown, span_call}
 use Rattle.ttree_go_test.specs.Texts.{ends_line, is_frame, without_line_end}
 use Rattle.ttree_go_test.specs.declared.go_test.running.Kind.{Kind}
 use Rattle.ttree_go_test.specs.declared.go_test.running.Running.{Running}
 use Rattle.ttree_go_test.specs.declared.go_test.tally.Ending.{Ending}
 use Rattle.ttree_go_test.specs.declared.go_test.tally.Ending.TheVariants.{Passed, Failed, Skipped, Unfinished}
-use Rattle.ttree_go_test.specs.GoTest.{GoState, Held, end_fields, event_told, fails_as, finished, frame_printed, framed, is_framing, level_of, level_of_line, line_of, line_told, more_printed, noted, opened, opened_as, part_told, quiet_told, said, span_ended, started, string_printed, text_printed, told, word_of}
+use Rattle.ttree_go_test.specs.GoTest.{GoState, Held, end_fields, event_emitted, fails_as, finished, frame_printed, framed, is_framing, level_of, level_of_line, line_of, line_emitted, more_printed, noted, opened, opened_as, part_emitted, quiet_emitted, said, span_ended, started, string_printed, text_printed, emitted, word_of}
 use Rattle.ttree_go_test.specs.Printed.{Shown, Shown.Line, Shown.End, Shown.NamedEnd, Shown.Built, Shown.Plain, call_message, lines_in, messages, shown_message, shown_messages, unless_blank}
 
 -- the message of a line, if it is shown
@@ -63,25 +63,25 @@ then_says h k l one two a b = record {
 }
 
 -- one more call
-pub call_sends : (last : Option Id) (call : Call) (s : GoState) → Sends s (told last call s) (call_message call)
+pub call_sends : (last : Option Id) (call : Call) (s : GoState) → Sends s (emitted last call s) (call_message call)
 call_sends last call s = record {
   packages = refl;
   builds = refl;
   sent_too = flat_map-append call_message s.calls (call ∷ []) ∙ ap (λ more. sent s ++ more) (append-nil (call_message call));
 }
 
-event_sends : (level : Level) (text : List ℕ) (rest : List Field) (above : Option Id) (s : GoState) →
-    Sends s (event_told level text rest above s) (shown_if (not (is_skipped text)) text)
+event_sends : (level : Level) (text : List ℕ) (rest : List Field) (parent : Option Id) (s : GoState) →
+    Sends s (event_emitted level text rest parent s) (shown_if (not (is_skipped text)) text)
 unfolding shown_if
-event_sends level text rest above s = by (is_skipped text) where
-  by : (b : Bool) → Sends s (if b then s else told above (event_call s.moment level (message_field text ∷ rest) above) s) (if not b then shown text ∷ [] else [])
+event_sends level text rest parent s = by (is_skipped text) where
+  by : (b : Bool) → Sends s (if b then s else emitted parent (event_call s.moment level (message_field text ∷ rest) parent) s) (if not b then shown text ∷ [] else [])
   by true = none_sent s
-  by false = call_sends above (event_call s.moment level (message_field text ∷ rest) above) s
+  by false = call_sends parent (event_call s.moment level (message_field text ∷ rest) parent) s
 
 opened_by : (span : Option Id) (h : Held) → Says h (opened_as span h) []
 opened_by (Some id) h = none_said h
 opened_by None h =
-    let sends = call_sends h.one.span (span_call h.state.moment h.one.name [] h.one.above) h.state in
+    let sends = call_sends h.one.span (span_call h.state.moment h.one.name [] h.one.parent) h.state in
     record {
       path = refl;
       test = refl;
@@ -137,7 +137,7 @@ pub record Cuts (text : List ℕ) (h k : Held) : Type 0 where
   pub sends : Sends h.state k.state (shown_messages (lines_of_its h.one lines))
 
 -- the pending text is a line
-line_cut : (h : Held) → Cuts [] h (line_told h)
+line_cut : (h : Held) → Cuts [] h (line_emitted h)
 line_cut h =
     let bare : Held = record h { one = record h.one { part = []; is_error = false } } in
     let says = line_says (level_of_line h.one.is_error) h.one.part bare in
@@ -164,9 +164,9 @@ no_cut h = record {
   sends = none_sent h.state;
 }
 
-pub part_cut : (h : Held) → Cuts [] h (part_told h)
+pub part_cut : (h : Held) → Cuts [] h (part_emitted h)
 part_cut h = by (is_empty h.one.part) where
-  by : (b : Bool) → Cuts [] h (if b then h else line_told h)
+  by : (b : Bool) → Cuts [] h (if b then h else line_emitted h)
   by true = no_cut h
   by false = line_cut h
 
@@ -175,9 +175,9 @@ nil_if_empty [] h = refl
 nil_if_empty (b ∷ text) h = grind (arith, nat_tests)
 
 -- nothing is pending afterwards
-pub part_none : (h : Held) → (part_told h).one.part ≡ []
+pub part_none : (h : Held) → (part_emitted h).one.part ≡ []
 part_none h = by (is_empty h.one.part) refl where
-  by : (b : Bool) → is_empty h.one.part ≡ b → (if b then h else line_told h).one.part ≡ []
+  by : (b : Bool) → is_empty h.one.part ≡ b → (if b then h else line_emitted h).one.part ≡ []
   by true is = nil_if_empty h.one.part is
   by false is = (line_says (level_of_line h.one.is_error) h.one.part (record h { one = record h.one { part = []; is_error = false } })).part
 
@@ -187,7 +187,7 @@ text_cut is_error text h = by (ends_line text) where
   more : Held
   more = more_printed is_error text h
 
-  by : (b : Bool) → Cuts text h (if b then line_told more else more)
+  by : (b : Bool) → Cuts text h (if b then line_emitted more else more)
   by true =
       let cuts = line_cut more in
       record {
@@ -210,7 +210,7 @@ text_cut is_error text h = by (ends_line text) where
 -- a frame ends a line
 frame_cut : (text : List ℕ) (h : Held) → Cuts [] h (frame_printed text h)
 frame_cut text h =
-    let last : Held = part_told h in
+    let last : Held = part_emitted h in
     let cuts = part_cut h in
     let says = framed_says (without_line_end text) last in
     record {
@@ -241,9 +241,9 @@ with_more : (s t : GoState) (a b : List (List ℕ)) → a ≡ b → Sends s t a 
 with_more s t a b e h = record { packages = h.packages; builds = h.builds; sent_too = h.sent_too ∙ ap (λ more. sent s ++ more) e }
 
 -- an event shows its line, unless that is blank
-pub event_shows : (level : Level) (text : List ℕ) (rest : List Field) (above : Option Id) (s : GoState) → Sends s (event_told level text rest above s) (unless_blank text)
-event_shows level text rest above s =
-    with_more s (event_told level text rest above s) (shown_if (not (is_skipped text)) text) (unless_blank text) (blank_or (is_skipped text) text) (event_sends level text rest above s)
+pub event_shows : (level : Level) (text : List ℕ) (rest : List Field) (parent : Option Id) (s : GoState) → Sends s (event_emitted level text rest parent s) (unless_blank text)
+event_shows level text rest parent s =
+    with_more s (event_emitted level text rest parent s) (shown_if (not (is_skipped text)) text) (unless_blank text) (blank_or (is_skipped text) text) (event_sends level text rest parent s)
 
 pub said_shows : (level : Level) (text : List ℕ) (h : Held) → Sends h.state (said level text (opened h)).state (unless_blank text)
 said_shows level text h =
@@ -297,26 +297,26 @@ no_others_then a b h k = flat_map-append other_in a b ∙ ap (λ x. x ++ others_
 
 -- ---- ends
 
-quiet_by : (ending : Ending) (name : List ℕ) (rest : List Field) (above : Option Id) (s : GoState) →
-    Sends s (quiet_told ending name rest above s) (shown_message (NamedEnd ending name))
+quiet_by : (ending : Ending) (name : List ℕ) (rest : List Field) (parent : Option Id) (s : GoState) →
+    Sends s (quiet_emitted ending name rest parent s) (shown_message (NamedEnd ending name))
 unfolding shown_if
-quiet_by Passed name rest above s = event_sends (level_of Passed) (word_of Passed ++ codes " " ++ name) rest above s
-quiet_by Failed name rest above s = event_sends (level_of Failed) (word_of Failed ++ codes " " ++ name) rest above s
-quiet_by Skipped name rest above s = event_sends (level_of Skipped) (word_of Skipped ++ codes " " ++ name) rest above s
-quiet_by Unfinished name rest above s = event_sends (level_of Unfinished) (word_of Unfinished ++ codes " " ++ name) rest above s
+quiet_by Passed name rest parent s = event_sends (level_of Passed) (word_of Passed ++ codes " " ++ name) rest parent s
+quiet_by Failed name rest parent s = event_sends (level_of Failed) (word_of Failed ++ codes " " ++ name) rest parent s
+quiet_by Skipped name rest parent s = event_sends (level_of Skipped) (word_of Skipped ++ codes " " ++ name) rest parent s
+quiet_by Unfinished name rest parent s = event_sends (level_of Unfinished) (word_of Unfinished ++ codes " " ++ name) rest parent s
 
 -- the end of a test without a span is named
-pub quiet_sends : (ending : Ending) (name : List ℕ) (rest : List Field) (above : Option Id) (s : GoState) →
-    Sends s (quiet_told ending name rest above s) (shown_messages (NamedEnd ending name ∷ []))
-quiet_sends ending name rest above s = quiet_by ending name rest above s
+pub quiet_sends : (ending : Ending) (name : List ℕ) (rest : List Field) (parent : Option Id) (s : GoState) →
+    Sends s (quiet_emitted ending name rest parent s) (shown_messages (NamedEnd ending name ∷ []))
+quiet_sends ending name rest parent s = quiet_by ending name rest parent s
 
-end_by : (ending : Ending) (rest : List Field) (above : Option Id) (s : GoState) →
-    Sends s (event_told (level_of ending) (word_of ending) rest above s) (shown_message (End ending))
+end_by : (ending : Ending) (rest : List Field) (parent : Option Id) (s : GoState) →
+    Sends s (event_emitted (level_of ending) (word_of ending) rest parent s) (shown_message (End ending))
 unfolding shown_if
-end_by Passed rest above s = event_sends (level_of Passed) (word_of Passed) rest above s
-end_by Failed rest above s = event_sends (level_of Failed) (word_of Failed) rest above s
-end_by Skipped rest above s = event_sends (level_of Skipped) (word_of Skipped) rest above s
-end_by Unfinished rest above s = event_sends (level_of Unfinished) (word_of Unfinished) rest above s
+end_by Passed rest parent s = event_sends (level_of Passed) (word_of Passed) rest parent s
+end_by Failed rest parent s = event_sends (level_of Failed) (word_of Failed) rest parent s
+end_by Skipped rest parent s = event_sends (level_of Skipped) (word_of Skipped) rest parent s
+end_by Unfinished rest parent s = event_sends (level_of Unfinished) (word_of Unfinished) rest parent s
 
 -- what shows an end
 pub record Ends (s t : GoState) : Type 0 where
@@ -327,19 +327,19 @@ pub record Ends (s t : GoState) : Type 0 where
 
 span_ends : (ending : Ending) (rest : List Field) (span : Option Id) (h : Held) → Ends h.state (span_ended ending rest span h)
 span_ends ending rest (Some id) h =
-    let event : GoState = event_told (level_of ending) (word_of ending) rest (Some id) h.state in
-    let close : Call = close_call h.state.moment id h.one.above in
+    let event : GoState = event_emitted (level_of ending) (word_of ending) rest (Some id) h.state in
+    let close : Call = close_call h.state.moment id h.one.parent in
     record {
       ends = End ending ∷ [];
       no_line = refl;
       no_other = refl;
-      sends = then_sends h.state event (told h.one.above close event) (shown_message (End ending)) [] (end_by ending rest (Some id) h.state) (call_sends h.one.above close event);
+      sends = then_sends h.state event (emitted h.one.parent close event) (shown_message (End ending)) [] (end_by ending rest (Some id) h.state) (call_sends h.one.parent close event);
     }
 span_ends ending rest None h = record {
   ends = NamedEnd ending h.one.name ∷ [];
   no_line = refl;
   no_other = refl;
-  sends = quiet_sends ending h.one.name rest h.one.above h.state;
+  sends = quiet_sends ending h.one.name rest h.one.parent h.state;
 }
 
 -- What the end of a test does: its pending text is shown as a line, and then the end.
@@ -353,7 +353,7 @@ pub record Finishes (h : Held) (t : GoState) : Type 0 where
 
 pub finished_shows : (ending : Ending) (elapsed : Option (List ℕ)) (h : Held) → Finishes h (finished ending elapsed h)
 finished_shows ending elapsed h =
-    let last : Held = part_told h in
+    let last : Held = part_emitted h in
     let cuts = part_cut h in
     let rest : List Field = end_fields elapsed last.one in
     let ended = span_ends ending rest last.one.span last in

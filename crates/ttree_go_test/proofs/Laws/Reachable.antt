@@ -14,11 +14,11 @@ use Rattle.ttree_go_test.specs.declared.go_test.tally.Ending.TheVariants.{Passed
 use Rattle.tracing_tree_lines.specs.Lines.Spelled.{is_skipped}
 use Rattle.ttree_source.specs.Marks.{after_mark, is_empty}
 use Rattle.ttree_go_test.specs.Names.{named}
-use Rattle.ttree_source.specs.Source.{hear, hear_line, heard_step}
-use Rattle.ttree_source.specs.Told.{event_call, message_field}
+use Rattle.ttree_source.specs.Source.{interpret, interpret_line, interpreted_step}
+use Rattle.ttree_source.specs.Calls.{event_call, message_field}
 use Rattle.ttree_go_test.specs.Texts.{is_package_frame, up_to_space, without_line_end}
 use Rattle.ttree_source.specs.Values.{text_at}
-use Rattle.ttree_go_test.specs.GoTest.{GoState, Held, acted, acted_for, build_printed_if, build_said, build_told, builds_said, elapsed_in, ended, event_told, go_takes, handed_out, held, is_aside, kept, kind_in, level_of_text, moved, nothing_run, opened, opened_as, package_ended, package_of, printed_if, ran, said, takes_failure, takes_heading, takes_json, takes_plain, takes_text, test_of, texts_told, timed, told, told_of_build, without_build, without_heading, build_over, level_of_build, package_started}
+use Rattle.ttree_go_test.specs.GoTest.{GoState, Held, acted, acted_for, build_printed_if, build_said, build_emitted, builds_said, elapsed_in, ended, event_emitted, go_takes, handed_out, held, is_aside, kept, kind_in, level_of_text, moved, nothing_run, opened, opened_as, package_ended, package_of, printed_if, ran, said, takes_failure, takes_heading, takes_json, takes_plain, takes_text, test_of, texts_emitted, timed, emitted, emitted_of_build, without_build, without_heading, build_over, level_of_build, package_started}
 use Rattle.ttree_go_test.proofs.Laws.WellKept.{IsWell, emptied, filled, well_emptied, well_filled}
 use Rattle.ttree_go_test.proofs.Laws.Accounts.{Holds, held_holds, holder}
 use Rattle.ttree_go_test.proofs.Laws.Actions.{printed_accounts, ran_accounts, test_accounts, started_accounts}
@@ -49,9 +49,9 @@ opened_by : (span : Option Id) (h : Held) → Same h (opened_as span h)
 opened_by (Some id) h = same h
 opened_by None h = record { path = refl; test = refl; part = refl; begun = refl; packages = refl }
 
-pub event_same : (level : Level) (text : List ℕ) (rest : List Field) (above : Option Id) (s : GoState) → (event_told level text rest above s).packages ≡ s.packages
-event_same level text rest above s = by (is_skipped text) where
-  by : (b : Bool) → (if b then s else told above (event_call s.moment level (message_field text ∷ rest) above) s).packages ≡ s.packages
+pub event_same : (level : Level) (text : List ℕ) (rest : List Field) (parent : Option Id) (s : GoState) → (event_emitted level text rest parent s).packages ≡ s.packages
+event_same level text rest parent s = by (is_skipped text) where
+  by : (b : Bool) → (if b then s else emitted parent (event_call s.moment level (message_field text ∷ rest) parent) s).packages ≡ s.packages
   by true = refl
   by false = refl
 
@@ -85,14 +85,14 @@ kept_well path name s h k w is like =
       sym_of : k.one.has_begun ≡ h.one.has_begun → k.one.has_begun ≡ false → h.one.has_begun ≡ false
       sym_of e f = cc
 
-texts_well : (level : Level) (build : Build) (s : GoState) → IsWell s.packages → IsWell (texts_told level build s).packages
+texts_well : (level : Level) (build : Build) (s : GoState) → IsWell s.packages → IsWell (texts_emitted level build s).packages
 texts_well level build s w =
     kept_well build.path (holder build.path [] s) s (held build.path [] s) (builds_said level build.texts (held build.path [] s)) w (held_holds build.path [] s w)
     (builds_said_same level build.texts (held build.path [] s))
 
-build_well : (level : Level) (path : List ℕ) (s : GoState) → IsWell s.packages → IsWell (build_told level path s).packages
+build_well : (level : Level) (path : List ℕ) (s : GoState) → IsWell s.packages → IsWell (build_emitted level path s).packages
 build_well level path s w = by (named path s.builds) where
-  by : (o : Option Build) → IsWell (told_of_build level o (without_build path s)).packages
+  by : (o : Option Build) → IsWell (emitted_of_build level o (without_build path s)).packages
   by None = w
   by (Some build) = texts_well level build (without_build path s) w
 
@@ -105,9 +105,9 @@ well_if false s t h k = k
 plain_well : (line : List ℕ) (s : GoState) → IsWell s.packages → IsWell (takes_plain line s).packages
 plain_well line s w =
     well_if (is_package_frame line) s _ w
-    (well_if (is_aside line s) (event_told (level_of_text line) line [] s.last s) (kept (said Error line (opened (held s.building [] s)))) aside
+    (well_if (is_aside line s) (event_emitted (level_of_text line) line [] s.last s) (kept (said Error line (opened (held s.building [] s)))) aside
     (kept_well s.building (holder s.building [] s) s (held s.building [] s) (said Error line (opened (held s.building [] s))) w (held_holds s.building [] s w) (said_same Error line (held s.building [] s)))) where
-      aside : IsWell (event_told (level_of_text line) line [] s.last s).packages
+      aside : IsWell (event_emitted (level_of_text line) line [] s.last s).packages
       aside = rw (event_same (level_of_text line) line [] s.last s) w
 
 failure_well : (rest : Option (List ℕ)) (line : List ℕ) (s : GoState) → IsWell s.packages → IsWell (takes_failure rest line s).packages
@@ -145,8 +145,8 @@ acted_well : (action path : List ℕ) (value : Json) (s : GoState) → IsWell s.
 acted_well action path value s w =
     either_well (bytes_eq action (codes "build-output")) (build_printed_if path output s) _ (built output)
     (either_well (bytes_eq action (codes "output")) (printed_if (kind_in value) path (test_of value) output s) _ (prints output)
-    (either_well (bytes_eq action (codes "build-fail")) (Some (build_told Error path s)) _ (build_well Error path s w)
-    (moved_well action path (test_of value) (elapsed_in value) (build_told Warn path s) (build_well Warn path s w)))) where
+    (either_well (bytes_eq action (codes "build-fail")) (Some (build_emitted Error path s)) _ (build_well Error path s w)
+    (moved_well action path (test_of value) (elapsed_in value) (build_emitted Warn path s) (build_well Warn path s w)))) where
       output : Option (List ℕ)
       output = text_at (codes "Output") value
 
@@ -156,54 +156,54 @@ acted_well action path value s w =
 
       prints : (o : Option (List ℕ)) → IfWell (printed_if (kind_in value) path (test_of value) o s)
       prints None = tt
-      prints (Some text) = (printed_accounts (kind_in value) path (test_of value) text (build_told Warn path s) (build_well Warn path s w)).well
+      prints (Some text) = (printed_accounts (kind_in value) path (test_of value) text (build_emitted Warn path s) (build_well Warn path s w)).well
 
 json_well : (action path : Option (List ℕ)) (value : Json) (s : GoState) → IsWell s.packages → IfWell (acted_for action path value s)
 json_well (Some action) (Some path) value s w = acted_well action path value s w
 json_well (Some action) None value s w = tt
 json_well None path value s w = tt
 
-handed_well : (s : GoState) (o : Option GoState) → IsWell s.packages → IfWell o → IsWell (heard_step s (option_map handed_out o)).source.packages
+handed_well : (s : GoState) (o : Option GoState) → IsWell s.packages → IfWell o → IsWell (interpreted_step s (option_map handed_out o)).source.packages
 handed_well s None w h = w
 handed_well s (Some t) w h = h
 
-value_well : (line : List ℕ) (value : Option Json) (s : GoState) → IsWell s.packages → IsWell (heard_step s (go_takes s line value)).source.packages
+value_well : (line : List ℕ) (value : Option Json) (s : GoState) → IsWell s.packages → IsWell (interpreted_step s (go_takes s line value)).source.packages
 value_well line None s w = text_well line s w
 value_well line (Some value) s w =
     handed_well s (takes_json value (timed value s)) w (json_well (text_at (codes "Action") value) (package_of value) value (timed value s) w)
 
-line_well : (line : List ℕ) (s : GoState) → IsWell s.packages → IsWell (hear_line go_takes s line).source.packages
+line_well : (line : List ℕ) (s : GoState) → IsWell s.packages → IsWell (interpret_line go_takes s line).source.packages
 line_well line s w = by (is_utf8 line) where
-  by : (b : Bool) → IsWell (if b then heard_step s (go_takes s line (document line)) else heard_step s None).source.packages
+  by : (b : Bool) → IsWell (if b then interpreted_step s (go_takes s line (document line)) else interpreted_step s None).source.packages
   by true = value_well line (document line) s w
   by false = w
 
-lines_well : (lines : List (List ℕ)) (s : GoState) → IsWell s.packages → IsWell (hear go_takes s lines).source.packages
+lines_well : (lines : List (List ℕ)) (s : GoState) → IsWell s.packages → IsWell (interpret go_takes s lines).source.packages
 lines_well [] s w = w
-lines_well (line ∷ lines) s w = lines_well lines (hear_line go_takes s line).source (line_well line s w)
+lines_well (line ∷ lines) s w = lines_well lines (interpret_line go_takes s line).source (line_well line s w)
 
-handed_calls : (s : GoState) (o : Option GoState) → s.calls ≡ [] → (heard_step s (option_map handed_out o)).source.calls ≡ []
+handed_calls : (s : GoState) (o : Option GoState) → s.calls ≡ [] → (interpreted_step s (option_map handed_out o)).source.calls ≡ []
 handed_calls s None h = h
 handed_calls s (Some t) h = refl
 
-value_calls : (line : List ℕ) (value : Option Json) (s : GoState) → s.calls ≡ [] → (heard_step s (go_takes s line value)).source.calls ≡ []
+value_calls : (line : List ℕ) (value : Option Json) (s : GoState) → s.calls ≡ [] → (interpreted_step s (go_takes s line value)).source.calls ≡ []
 value_calls line None s h = refl
 value_calls line (Some value) s h = handed_calls s (takes_json value (timed value s)) h
 
-line_calls : (line : List ℕ) (s : GoState) → s.calls ≡ [] → (hear_line go_takes s line).source.calls ≡ []
+line_calls : (line : List ℕ) (s : GoState) → s.calls ≡ [] → (interpret_line go_takes s line).source.calls ≡ []
 line_calls line s h = by (is_utf8 line) where
-  by : (b : Bool) → (if b then heard_step s (go_takes s line (document line)) else heard_step s None).source.calls ≡ []
+  by : (b : Bool) → (if b then interpreted_step s (go_takes s line (document line)) else interpreted_step s None).source.calls ≡ []
   by true = value_calls line (document line) s h
   by false = h
 
-lines_calls : (lines : List (List ℕ)) (s : GoState) → s.calls ≡ [] → (hear go_takes s lines).source.calls ≡ []
+lines_calls : (lines : List (List ℕ)) (s : GoState) → s.calls ≡ [] → (interpret go_takes s lines).source.calls ≡ []
 lines_calls [] s h = h
-lines_calls (line ∷ lines) s h = lines_calls lines (hear_line go_takes s line).source (line_calls line s h)
+lines_calls (line ∷ lines) s h = lines_calls lines (interpret_line go_takes s line).source (line_calls line s h)
 
 -- all calls were returned
-pub reached_calls : (next : ℕ) (moment : Moment) (lines : List (List ℕ)) → (hear go_takes (nothing_run next moment) lines).source.calls ≡ []
+pub reached_calls : (next : ℕ) (moment : Moment) (lines : List (List ℕ)) → (interpret go_takes (nothing_run next moment) lines).source.calls ≡ []
 reached_calls next moment lines = lines_calls lines (nothing_run next moment) refl
 
 -- after any lines
-pub reached_well : (next : ℕ) (moment : Moment) (lines : List (List ℕ)) → IsWell (hear go_takes (nothing_run next moment) lines).source.packages
+pub reached_well : (next : ℕ) (moment : Moment) (lines : List (List ℕ)) → IsWell (interpret go_takes (nothing_run next moment) lines).source.packages
 reached_well next moment lines = lines_well lines (nothing_run next moment) (record { all = tt; sorted = tt })

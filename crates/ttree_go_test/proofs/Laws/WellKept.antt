@@ -114,8 +114,8 @@ owner_by tests test zero missing = refl
 owner_by tests test (suc n) missing = by (ends_word 47 (drop (suc n) test) && is_some (named (take (suc n) test) tests)) refl (owner_by tests test n) missing where
   by : (b : Bool) → (ends_word 47 (drop (suc n) test) && is_some (named (take (suc n) test) tests)) ≡ b → RunsOrEmpty tests (owner_within tests test n) →
       RunsOrEmpty tests (if b then take (suc n) test else owner_within tests test n)
-  by true is shorter lacks = let k : true ≡ false = sym (and_right (ends_word 47 (drop (suc n) test)) (is_some (named (take (suc n) test) tests)) is) ∙ lacks in cc
-  by false is shorter lacks = shorter lacks
+  by true is shorter value_problem = let k : true ≡ false = sym (and_right (ends_word 47 (drop (suc n) test)) (is_some (named (take (suc n) test) tests)) is) ∙ value_problem in cc
+  by false is shorter value_problem = shorter value_problem
 
 -- it runs, unless it is the package
 pub owner_runs : (tests : Tests) (test : List ℕ) → is_some (named (owner tests test) tests) ≡ false → owner tests test ≡ []

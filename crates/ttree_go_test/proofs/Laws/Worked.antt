@@ -10,7 +10,7 @@ use Rattle.ttree_go_test.specs.Failures.{some_failed}
 use Rattle.ttree_go_test.specs.Nesting.{IsIn}
 use Rattle.ttree_go_test.specs.Printed.{Printed, Shown.Line, Shown.End, messages, shown_messages, text_added, text_of, Shown.Built, is_plain, strings_of}
 use Rattle.ttree_go_test.specs.GoTest.{GoState, above_held, ended, held, kept, nothing_run, package_ended, printed, ran}
-use Rattle.ttree_source.specs.Told.{shown}
+use Rattle.ttree_source.specs.Calls.{shown}
 use Rattle.ttree_go_test.specs.Texts.{is_frame}
 
 abbrev p : List ℕ

@@ -2,7 +2,7 @@
 
 ghost use Rattle.std.specs.Prelude.{◌≡◌, ◌++◌, ◌∷◌, [], IfOk, OnOk};
 ghost use Rattle.ttree_go_test.specs.Names.{named};
-ghost use Rattle.ttree_go_test.specs.GoTest.{begun, build_last, build_of, build_printed, build_said, build_told, builds_said, builds_told, holds, level_of_build, more_built, only_closed, texts_told, told_of_build, with_build, without_build, without_heading};
+ghost use Rattle.ttree_go_test.specs.GoTest.{begun, build_last, build_of, build_printed, build_said, build_emitted, builds_said, builds_emitted, holds, level_of_build, more_built, only_closed, texts_emitted, emitted_of_build, with_build, without_build, without_heading};
 
 use super::GoTest;
 use super::running::Running;
@@ -104,11 +104,11 @@ impl GoTest {
     }
 
     // Reports the output of a package's build, in its package.
-    pub(super) fn tell_build(&mut self, level: Level, path: &str) -> Result<(), AllocError>
-        ensures { OnOk result (self.new ≡ build_told level path.now self.old) }
+    pub(super) fn emit_build(&mut self, level: Level, path: &str) -> Result<(), AllocError>
+        ensures { OnOk result (self.new ≡ build_emitted level path.now self.old) }
     {
         match self.take_known_build(path)? {
-            Some(build) => self.tell_texts(level, &build),
+            Some(build) => self.emit_texts(level, &build),
             None => Ok(()),
         }
     }
@@ -122,18 +122,18 @@ impl GoTest {
     }
 
     // Reports the output of each of these builds, when no package is running.
-    pub(super) fn tell_builds(&mut self, builds: Named<Build>) -> Result<(), AllocError>
-        ensures { OnOk result (self.new ≡ builds_told builds self.old) }
+    pub(super) fn emit_builds(&mut self, builds: Named<Build>) -> Result<(), AllocError>
+        ensures { OnOk result (self.new ≡ builds_emitted builds self.old) }
     {
         let mut builds = builds;
         while let Some((_, build)) = builds.take_first()? {
-            self.tell_last(&build)?;
+            self.emit_last(&build)?;
         }
         Ok(())
     }
 
     // Reports the output of a build in a span that closes after it.
-    fn tell_last(&mut self, build: &Build) -> Result<(), AllocError>
+    fn emit_last(&mut self, build: &Build) -> Result<(), AllocError>
         ensures { OnOk result (self.new ≡ build_last build.now self.old) }
     {
         let mut owner = Running::begun(self.alloc, build.path.as_str(), "")?;
@@ -146,14 +146,14 @@ impl GoTest {
         ensures { OnOk result (self.new ≡ only_closed one.span (holds one self.old)) }
     {
         match one.span {
-            Some(id) => self.push_close(id, one.above),
+            Some(id) => self.push_close(id, one.parent),
             None => Ok(()),
         }
     }
 
     // Reports the output of a build in its package.
-    fn tell_texts(&mut self, level: Level, build: &Build) -> Result<(), AllocError>
-        ensures { OnOk result (self.new ≡ texts_told level build.now self.old) }
+    fn emit_texts(&mut self, level: Level, build: &Build) -> Result<(), AllocError>
+        ensures { OnOk result (self.new ≡ texts_emitted level build.now self.old) }
     {
         let mut owner = self.take_owner(build.path.as_str(), "")?;
         self.say_texts(level, &mut owner, build.texts.as_slice())?;

@@ -20,7 +20,7 @@ pub(super) struct Running {
     pub(super) name: Text,
     // The parent's span. It is looked up each time this value is taken out, since the parent may
     // have ended.
-    pub(super) above: Option<Id>,
+    pub(super) parent: Option<Id>,
     // Its span, once it has printed something.
     pub(super) span: Option<Id>,
     // The first part of a line whose end hasn't been printed yet.
@@ -86,7 +86,7 @@ impl Running {
             path: Text::from_str(alloc, path)?,
             test: Text::from_str(alloc, test)?,
             name: Text::from_str(alloc, name)?,
-            above: None,
+            parent: None,
             span: None,
             part: Text::from_str(alloc, "")?,
             is_error: false,
@@ -141,7 +141,7 @@ impl Running {
         ensures { OnOk result (self.new
             ≡ placed_in package_span (option_map (λ o. o.now) outer.entry) self.old) }
     {
-        self.above = span_of(package_span, outer);
+        self.parent = span_of(package_span, outer);
         if self.span.is_none() {
             self.name = Text::from_str(alloc, self.shown_name(outer))?;
         }

@@ -7,7 +7,7 @@ use std::alloc::{AllocError, Global};
 use tracing_tree_base::field::Field;
 use tracing_tree_base::style::Level;
 use tracing_tree_base::text::Text;
-use ttree_source::told::shown;
+use ttree_source::calls::shown;
 
 // At most this many names of failed tests or packages are reported.
 const MOST_NAMES: u64 = 10;

@@ -2,7 +2,7 @@
 
 ghost use Rattle.std.specs.Prelude.{◌≡◌, ◌++◌, IfOk, OnOk, string_bytes};
 ghost use Rattle.json.specs.Value.{members_view, value_view};
-ghost use Rattle.ttree_source.specs.Told.{shown};
+ghost use Rattle.ttree_source.specs.Calls.{shown};
 ghost use Rattle.ttree_source.specs.JsonText.{json_text};
 ghost use Rattle.ttree_logs.specs.LogFields.{empty_fields, field_of, inner_fields, inner_name, member_fields, members_fields, value_fields};
 
@@ -11,8 +11,8 @@ use json::Value;
 use std::alloc::{AllocError, Global};
 use tracing_tree_base::field::Field;
 use tracing_tree_base::text::Text;
+use ttree_source::calls::shown;
 use ttree_source::json_text::json_text;
-use ttree_source::told::shown;
 
 // Puts an object's members after these fields, but those whose keys are used.
 pub(super) fn push_members(

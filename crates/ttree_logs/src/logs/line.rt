@@ -14,7 +14,7 @@ use std::marker::Model;
 use tracing_tree_base::field::Fields;
 use tracing_tree_base::style::Level;
 use tracing_tree_time::Moment;
-use ttree_source::told::message_field;
+use ttree_source::calls::message_field;
 
 const LEVEL_KEYS: [&str; 5] = ["level", "severity", "lvl", "log.level", "PRIORITY"];
 
@@ -160,7 +160,7 @@ impl<'v> Model for Group<'v> {
     } };
 }
 
-// Returns the group of a line: that of the key that was asked for, otherwise its trace or its
+// Returns the group of a line: that of the given key, otherwise its trace or its
 // request, otherwise its unit.
 pub(super) fn group_in<'v>(asked: Option<&'v str>, value: &'v Value<'_>) -> Option<Group<'v>>
     ensures { result ≡ group_in (option_map (λ k. k.now) asked.entry) (value_view value.now) }

@@ -79,7 +79,7 @@ both_equal Less b h = absurd (let no_less : Less ≡ Equal = h in cc)
 both_equal Equal b h = (refl, h)
 both_equal Greater b h = absurd (let no_greater : Greater ≡ Equal = h in cc)
 
--- rows that tie are at the same place but for their numbers
+-- rows that tie are at the same place except for their numbers
 pub tied_places : (a b : Item) → place_cmp a b ≡ Equal → (unnumbered a).place ≡ (unnumbered b).place
 tied_places a b h =
     let first = both_equal (ordering_then (nat_cmp a.place.time b.place.time) (nat_cmp a.place.rank b.place.rank)) (nat_cmp a.place.number b.place.number) h in

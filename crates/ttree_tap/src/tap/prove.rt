@@ -1,7 +1,7 @@
 //! What prove prints around TAP.
 
 ghost use Rattle.std.specs.Prelude.{◌≡◌, IfOk, OnOk, None};
-ghost use Rattle.ttree_tap.specs.Tap.{file_come, file_opened, file_taken, good_told, is_in_file, judged, part_after, part_before, part_in_file, part_of, summary_begun, summary_over, summary_taken, tail_taken, verdict_taken, verdict_told};
+ghost use Rattle.ttree_tap.specs.Tap.{file_come, file_opened, file_taken, good_emitted, is_in_file, judged, part_after, part_before, part_in_file, part_of, summary_begun, summary_over, summary_taken, tail_taken, verdict_taken, verdict_emitted};
 ghost use Rattle.ttree_tap.specs.Texts.{good_text, time_fields};
 
 use super::results::length_if;
@@ -145,7 +145,7 @@ impl Tap {
     }
 
     fn push_verdict(&mut self, level: Level, text: &str) -> Result<(), AllocError>
-        ensures { OnOk result (self.new ≡ verdict_told level text.now self.old) }
+        ensures { OnOk result (self.new ≡ verdict_emitted level text.now self.old) }
     {
         match level {
             Level::Error => self.push_error(text, self.subtest.span)?,
@@ -157,7 +157,7 @@ impl Tap {
 
     // Records a verdict without a failure. How long the file took is its time.
     fn push_good(&mut self, level: Level, text: &str) -> Result<(), AllocError>
-        ensures { OnOk result (self.new ≡ good_told level text.now self.old) }
+        ensures { OnOk result (self.new ≡ good_emitted level text.now self.old) }
     {
         let time = verdict_time(text);
         let fields = time_fields(self.alloc, time)?;

@@ -1,7 +1,7 @@
 //! Results and plans.
 
 ghost use Rattle.std.specs.Prelude.{◌≡◌, ◌++◌, [], IfOk, OnOk, None, string_bytes, true, false};
-ghost use Rattle.ttree_tap.specs.Tap.{given_taken, is_kept_plan, is_unjudged, missed, number_taken, one_counted, plan_kept, plan_missed, plan_set, plan_taken, restarted, result_in, result_placed, result_taken, results_missed, script_missed, skip_told, subtest_ended, waiting_of, without_heading};
+ghost use Rattle.ttree_tap.specs.Tap.{given_taken, is_kept_plan, is_unjudged, missed, number_taken, one_counted, plan_kept, plan_missed, plan_set, plan_taken, restarted, result_in, result_placed, result_taken, results_missed, script_missed, skip_emitted, subtest_ended, waiting_of, without_heading};
 ghost use Rattle.ttree_tap.specs.Texts.{label_of, leaf_label, length_if, missing_text, name_as, name_in, no_plan_text, plan_text, reason_as, subtest_label};
 
 use super::subtests::Subtest;
@@ -285,9 +285,9 @@ impl Tap {
     }
 
     // Reports that everything is skipped.
-    #[tactic(auto, unfolding(crate::specs::Tap::skip_told))]
+    #[tactic(auto, unfolding(crate::specs::Tap::skip_emitted))]
     fn push_skip(&mut self, reason: &str) -> Result<(), AllocError>
-        ensures { OnOk result (self.new ≡ skip_told reason.now self.old) }
+        ensures { OnOk result (self.new ≡ skip_emitted reason.now self.old) }
     {
         let reason = unescaped(self.alloc, reason)?;
         let fields = end_fields(self.alloc, reason.as_str(), "")?;

@@ -2,7 +2,7 @@
 
 ghost use Rattle.std.specs.Prelude.{◌≡◌, [], IfOk, OnOk, Some};
 ghost use Rattle.tracing_tree_spans.specs.Registry.Ids.{id_of};
-ghost use Rattle.ttree_tap.specs.Tap.{closed, closed_if, error_told, line_told, lines_claimed, opened, row_told, told};
+ghost use Rattle.ttree_tap.specs.Tap.{closed, closed_if, error_emitted, line_emitted, lines_claimed, opened, row_emitted, emitted};
 
 use super::Tap;
 use crate::queue::Role;
@@ -11,11 +11,11 @@ use tracing_tree_base::Id;
 use tracing_tree_base::field::{Field, Fields};
 use tracing_tree_base::style::Level;
 use tracing_tree_layer::call::Call;
-use ttree_source::told::{close_call, event_call, message_field, span_call};
+use ttree_source::calls::{close_call, event_call, message_field, span_call};
 
 impl Tap {
     pub(super) fn push(&mut self, role: Role, call: Call) -> Result<(), AllocError>
-        ensures { OnOk result (self.new ≡ told role call self.old) }
+        ensures { OnOk result (self.new ≡ emitted role call self.old) }
     {
         self.queue.add(role, call)
     }
@@ -29,7 +29,7 @@ impl Tap {
         rest: Vec<Field>,
         span: Option<Id>,
     ) -> Result<(), AllocError>
-        ensures { OnOk result (self.new ≡ row_told role level text.now rest.items span self.old) }
+        ensures { OnOk result (self.new ≡ row_emitted role level text.now rest.items span self.old) }
     {
         let mut fields = Fields::one(self.alloc, message_field(self.alloc, text)?);
         fields.append(Fields::from(rest))?;
@@ -44,7 +44,7 @@ impl Tap {
         text: &str,
         span: Option<Id>,
     ) -> Result<(), AllocError>
-        ensures { OnOk result (self.new ≡ line_told role text.now span self.old) }
+        ensures { OnOk result (self.new ≡ line_emitted role text.now span self.old) }
     {
         let fields = Fields::one(self.alloc, message_field(self.alloc, text)?);
         let call = event_call(self.alloc, self.moment, Level::Info, fields, span)?;
@@ -60,7 +60,7 @@ impl Tap {
 
     // Records a failure that isn't a result.
     pub(super) fn push_error(&mut self, text: &str, span: Option<Id>) -> Result<(), AllocError>
-        ensures { OnOk result (self.new ≡ error_told text.now span self.old) }
+        ensures { OnOk result (self.new ≡ error_emitted text.now span self.old) }
     {
         self.tally = self.tally.broken();
         let fields = Fields::one(self.alloc, message_field(self.alloc, text)?);

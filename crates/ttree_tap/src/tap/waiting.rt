@@ -12,7 +12,7 @@ use std::mem;
 use tracing_tree_base::Id;
 use tracing_tree_base::field::Field;
 use tracing_tree_base::text::Text;
-use ttree_source::told::shown;
+use ttree_source::calls::shown;
 
 // A result that waits for its block.
 #[derive(Drop)]

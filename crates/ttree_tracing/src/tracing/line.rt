@@ -8,9 +8,9 @@ use json::Value;
 use std::alloc::{AllocError, Global};
 use tracing_tree_base::field::{Field, Fields};
 use tracing_tree_base::text::Text;
+use ttree_source::calls::shown;
 use ttree_source::fields::{event_fields, fields_besides};
 use ttree_source::marks::after_mark;
-use ttree_source::told::shown;
 use ttree_source::values::{array_at, is_object, text_at};
 
 // The keys of a line that aren't fields of its event.

@@ -41,7 +41,13 @@ impl Registry {
         ensures formed { IsGrownForest self.now }
     {
         match self.nodes.get(id) {
-            Some(node) => node.path().iter().rev().copied().collect(alloc),
+            Some(node) => self
+                .branches
+                .path(node.path())
+                .iter()
+                .rev()
+                .copied()
+                .collect(alloc),
             None => Ok(Vec::new(alloc)),
         }
     }

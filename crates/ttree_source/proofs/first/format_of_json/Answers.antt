@@ -5,7 +5,7 @@ use Rattle.std.proofs.lemmas.Str.{is_utf8-from_IsUtf8}
 use Rattle.json.specs.Json.{document}
 use Rattle.ttree_source.specs.First.{begins_object, format_by, format_of_json}
 use Rattle.ttree_source.specs.declared.first.Format.{Format}
-use Rattle.ttree_source.proofs.Heard.{no_text}
+use Rattle.ttree_source.proofs.Interpreted.{no_text}
 use Rattle.ttree_source.proofs.first.format_of_json.Goals as goal
 
 abbrev judged : List ℕ → Bool → Option Format

@@ -1,6 +1,6 @@
 use Rattle.std.proofs.Common.{◌∙◌, false, Ok, ap, subst}
 use Rattle.tracing_tree_lines.specs.Lines.Reads.{ReadsNext, TakesLine}
-use Rattle.ttree_source.proofs.Heard.{next_ends, next_outside, next_stops}
+use Rattle.ttree_source.proofs.Interpreted.{next_ends, next_outside, next_stops}
 use Rattle.ttree_source.proofs.run.run_read.Goals as goal
 
 pub returns-in-Err-run_line-clause-next : goal.returns-in-Err-run_line-clause-next

@@ -2,7 +2,7 @@ use Rattle.std.proofs.Common.{◌≡◌, ◌∙◌, ◌+◌, ◌++◌, ◌∷◌
 use Rattle.std.proofs.lemmas.Result.{err_from_is_err_and}
 use Rattle.tracing_tree_drawing.specs.Rows.Paths.{AreLastPlaces}
 use Rattle.tracing_tree_drawing.specs.Rows.Line.{with_last}
-use Rattle.tracing_tree_drawing.specs.Rows.Texts.{IsReadTo, TellsFault, TextLeft}
+use Rattle.tracing_tree_drawing.specs.Rows.Texts.{IsReadTo, ReportsFault, TextLeft}
 use Rattle.tracing_tree_drawing.specs.Rows.RowText.{TextRow, IsOnlyReading, event_paths}
 use Rattle.tracing_tree_drawing.specs.declared.rows.paths.Paths.{Paths}
 use Rattle.tracing_tree_drawing.proofs.RowsRead.AncestryLaws.{last_none}
@@ -27,10 +27,10 @@ loop-so_far-init c =
 pub returns-in_err-taken-clause-fault : goal.returns-in_err-taken-clause-fault
 returns-in_err-taken-clause-fault c =
     let invariant = c.loop-so_far.invariant in
-    let tells = c.in_err-taken.ensures.next c.args.text.now invariant.2.0 invariant.2.1 in
-    let tells = subst (λ (amount : ℕ). TellsFault amount c.args.text.now c.in_err-taken.field-0.0) invariant.0 tells in
+    let emits = c.in_err-taken.ensures.next c.args.text.now invariant.2.0 invariant.2.1 in
+    let emits = subst (λ (amount : ℕ). ReportsFault amount c.args.text.now c.in_err-taken.field-0.0) invariant.0 emits in
     let p = err_from_is_err_and c.from_residual.result c.from_residual.ensures.1 in
-    rw (p.1, p.2) tells
+    rw (p.1, p.2) emits
 
 pub returns-in_err-taken-clause-drawn_fault : goal.returns-in_err-taken-clause-drawn_fault
 returns-in_err-taken-clause-drawn_fault c =

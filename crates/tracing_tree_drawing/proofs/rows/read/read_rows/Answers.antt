@@ -2,7 +2,7 @@ use Rattle.std.proofs.Common.{◌≡◌, ◌∙◌, ◌≤◌, ℕ, List, Vec, G
 use Rattle.std.proofs.lemmas.Result.{err_from_is_err_and}
 use Rattle.tracing_tree_drawing.specs.Rows.RowText.{TextRow, IsOnlyReading}
 use Rattle.tracing_tree_drawing.specs.Rows.Line.{with_last}
-use Rattle.tracing_tree_drawing.specs.Rows.Texts.{TellsFault}
+use Rattle.tracing_tree_drawing.specs.Rows.Texts.{ReportsFault}
 use Rattle.tracing_tree_drawing.proofs.RowsRead.ReadPlaces.{read_end}
 use Rattle.tracing_tree_drawing.proofs.RowsRead.ReadBack.{drawn-rows, drawn-faults}
 use Rattle.tracing_tree_drawing.proofs.rows.read.read_rows.Goals as goal
@@ -11,10 +11,10 @@ use Rattle.tracing_tree_drawing.proofs.rows.read.read_rows.Goals.{in-Some-finish
 pub returns-in_err-taken-clause-fault : goal.returns-in_err-taken-clause-fault
 returns-in_err-taken-clause-fault c =
     let invariant = c.loop-rows.invariant in
-    let tells = c.in_err-taken.ensures.next c.args.text.now c.loop-rows.rows.items invariant.1 in
-    let tells = subst (λ (amount : ℕ). TellsFault amount c.args.text.now c.in_err-taken.field-0.0) invariant.0 tells in
+    let emits = c.in_err-taken.ensures.next c.args.text.now c.loop-rows.rows.items invariant.1 in
+    let emits = subst (λ (amount : ℕ). ReportsFault amount c.args.text.now c.in_err-taken.field-0.0) invariant.0 emits in
     let p = err_from_is_err_and c.from_residual.result c.from_residual.ensures.1 in
-    rw (p.1, p.2) tells
+    rw (p.1, p.2) emits
 
 pub returns-in_err-taken-clause-drawn_fault : goal.returns-in_err-taken-clause-drawn_fault
 returns-in_err-taken-clause-drawn_fault c =

@@ -10,7 +10,7 @@ returns-else-is_ok g c =
     let inside = c.self.inside in
     let drawn = c.event-drawn in
     let timer = g.FT.FormatTime.timer inside.timer in
-    let event = g.E.ToldEvent.told c.args.event.now in
+    let event = g.E.EventParts.whole c.args.event.now in
     let drafts = subst (λ d. let settings = d.config.now in
     let context = d.context.now in
     let forest = g.S.LookupSpan.forest d.spans.now in

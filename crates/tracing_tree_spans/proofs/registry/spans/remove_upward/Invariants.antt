@@ -7,5 +7,5 @@ use Rattle.tracing_tree_spans.proofs.registry.spans.remove_upward.Given as goal
 abbrev pub invariant-loop : goal.invariant-loop
 invariant-loop l = record {
   removed : HasRemoved (spans_of l.initial.nodes) (spans_of l.nodes) (Some l.fn.id) l.above (l.count - l.counter);
-  tied : IsTied l.nodes;
+  tied : IsTied l.branches.branches.items l.nodes;
 }

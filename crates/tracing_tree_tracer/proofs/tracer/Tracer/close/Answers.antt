@@ -7,11 +7,11 @@ use Rattle.tracing_tree_tracer.proofs.tracer.Tracer.close.Goals as goal
 pub returns-in_err-was_removed : goal.returns-in_err-was_removed
 returns-in_err-was_removed g c =
     let self = c.args.self.now in
-    closed_as g.C.Calls.answers g.N.Now.tells (current_of self.spans) c.in-Some.id (search rules) _ self _
+    closed_as g.C.Calls.answers g.N.Now.reads (current_of self.spans) c.in-Some.id (search rules) _ self _
     (leaves_refused _ _ (after_close self.spans) (λ went. Closed went) self _ c.in_err-was_removed.field-0.0
     c.from_residual-in_err-was_removed.result (search rules)
-    (made_at g.C.Calls.answers (g.N.Now.tells self.clock)
-    (close_call self.teller self.spans c.in-Some.id)
+    (made_at g.C.Calls.answers (g.N.Now.reads self.clock)
+    (close_call self.emitter self.spans c.in-Some.id)
     c.in_ok-moment.moment (search rules) _ (search rules)
     _ (Err c.in_err-was_removed.field-0.0) (search rules)
     _ self.layered _ (search rules) c.close.ensures)
@@ -20,10 +20,10 @@ returns-in_err-was_removed g c =
 pub returns : goal.returns
 returns g c =
     let self = c.args.self.now in
-    closed_as g.C.Calls.answers g.N.Now.tells (current_of self.spans) c.in-Some.id (search rules) _ self _
+    closed_as g.C.Calls.answers g.N.Now.reads (current_of self.spans) c.in-Some.id (search rules) _ self _
     (record {
-      made = made_at g.C.Calls.answers (g.N.Now.tells self.clock)
-          (close_call self.teller self.spans c.in-Some.id)
+      made = made_at g.C.Calls.answers (g.N.Now.reads self.clock)
+          (close_call self.emitter self.spans c.in-Some.id)
           c.in_ok-moment.moment (search rules) _ (search rules)
           _ (Ok (Closed c.in_ok-was_removed.was_removed)) (search rules)
           _ self.layered _ (search rules) c.close.ensures;

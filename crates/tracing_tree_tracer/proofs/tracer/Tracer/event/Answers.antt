@@ -9,8 +9,8 @@ pub returns-in_err-event-2 : goal.returns-in_err-event-2
 returns-in_err-event-2 g c =
     let self = c.args.self.now in
     leaves_refused _ _ (λ result. self.spans) done self _ c.in_err-event-2.field-0.0 c.from_residual-in_err-event-2.result (search rules)
-    (made_at g.C.Calls.answers (g.N.Now.tells self.clock)
-    (event_call self.teller self.spans c.args.level c.args.message.now (fields_of c.args.fields.now))
+    (made_at g.C.Calls.answers (g.N.Now.reads self.clock)
+    (event_call self.emitter self.spans c.args.level c.args.message.now (fields_of c.args.fields.now))
     c.in_ok-moment.moment (search rules) _ (search rules)
     _ (Err c.in_err-event-2.field-0.0) (search rules)
     _ self.layered _ (search rules) c.event-2.ensures)
@@ -20,8 +20,8 @@ pub returns : goal.returns
 returns g c =
     let self = c.args.self.now in
     record {
-      made = made_at g.C.Calls.answers (g.N.Now.tells self.clock)
-          (event_call self.teller self.spans c.args.level c.args.message.now (fields_of c.args.fields.now))
+      made = made_at g.C.Calls.answers (g.N.Now.reads self.clock)
+          (event_call self.emitter self.spans c.args.level c.args.message.now (fields_of c.args.fields.now))
           c.in_ok-moment.moment (search rules) _ (search rules)
           _ (Ok Done) (search rules)
           _ self.layered _ (search rules) c.event-2.ensures;

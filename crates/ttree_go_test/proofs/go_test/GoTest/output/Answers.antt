@@ -7,7 +7,7 @@ pub returns : goal.returns
 returns c =
     let text = c.args.text.now in
     let first : Held = held c.args.path.now c.args.test.now c.args.self.now in
-    let told : holds c.print_string.new.owner c.print_string.new.self ≡ string_printed c.args.kind text (started first) =
+    let emitted : holds c.print_string.new.owner c.print_string.new.self ≡ string_printed c.args.kind text (started first) =
     c.in_ok-print_string.ensures ∙ ap (λ (h : Held). string_printed c.args.kind text (started h)) c.in_ok-owner.ensures in
     let done : Held → Type 0 = λ h. OnOk c.keep.result (c.keep.new.self ≡ kept h) in
-    subst done told c.keep.ensures
+    subst done emitted c.keep.ensures

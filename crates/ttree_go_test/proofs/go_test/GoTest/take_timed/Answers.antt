@@ -13,7 +13,7 @@ returns c =
     sym c.text_at.ensures ∙ ap (option_map (λ s. s.now)) c.in-Some.is in
     let path : package_of value ≡ Some c.in-Some-package_of.path.now =
     sym c.package_of.ensures ∙ ap (option_map (λ s. s.now)) c.in-Some-package_of.is in
-    let told : takes_json value old ≡ acted c.in-Some.action.now c.in-Some-package_of.path.now c.test_of.result.now value old =
+    let emitted : takes_json value old ≡ acted c.in-Some.action.now c.in-Some-package_of.path.now c.test_of.result.now value old =
     rw (action, path, sym c.test_of.ensures) refl in
     let takes : Option GoState → Type 0 = λ s. IfOk c.act.result (takes_value_as s old c.act.new.self) in
-    subst takes (sym told) c.act.ensures
+    subst takes (sym emitted) c.act.ensures

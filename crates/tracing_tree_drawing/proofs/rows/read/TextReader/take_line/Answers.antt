@@ -1,6 +1,6 @@
 use Rattle.std.proofs.Common.{◌+◌, Ok, Some, sym, ◌∙◌, subst, refl, arith}
 use Rattle.std.proofs.lemmas.Str.Pattern.{split_parts}
-use Rattle.tracing_tree_drawing.specs.Rows.Texts.{IsReadTo, TakesTextLine, TakesNext, TellsFault, TextLeft}
+use Rattle.tracing_tree_drawing.specs.Rows.Texts.{IsReadTo, TakesTextLine, TakesNext, ReportsFault, TextLeft}
 use Rattle.tracing_tree_drawing.specs.declared.rows.read.ReadFault.TheVariants.{Line}
 use Rattle.tracing_tree_drawing.specs.declared.rows.read.Taken.{Taken}
 use Rattle.tracing_tree_drawing.proofs.RowsRead.ReadPlaces.{unbroken-from}
@@ -20,7 +20,7 @@ returns-in_default-clause-next c text rows h =
     let unbroken = rw c.in_default.is at parts in
     let here : TextLeft = left_by c.self.inside.reader c.self.inside.rest.now c.self.inside.lines in
     let read : IsReadTo text rows here = subst (λ (v : TextLeft). IsReadTo text rows v) (sym c.self.view_is) h in
-    subst (λ (v : TextLeft). TellsFault v.reader.amount text (Line (c.self.inside.lines + 1))) c.self.view_is
+    subst (λ (v : TextLeft). ReportsFault v.reader.amount text (Line (c.self.inside.lines + 1))) c.self.view_is
     (taken-rest text rows here c.self.invariant.0 (sym c.is_empty.ensures ∙ c.if-is_empty.false) unbroken read)
 
 pub returns-clause-next : goal.returns-clause-next
@@ -37,7 +37,7 @@ returns-clause-next c text rows h =
     elim c.match-taken.branch [
       | in-Neither w ↦
           let neither = subst (λ (t : Taken). TakesTextLine here.reader line (Ok t) reader) w.in-Neither.is c.in_ok-taken.ensures in
-          rw w.result-is (subst (λ (v : TextLeft). TellsFault v.reader.amount text (Line lines)) c.self.view_is
+          rw w.result-is (subst (λ (v : TextLeft). ReportsFault v.reader.amount text (Line lines)) c.self.view_is
           (taken-bad text rows here line after reader lines c.self.invariant.0 cut.0 cut.1 neither refl read))
       | in_default-taken w ↦
           rw w.result-is (subst (λ (v : TextLeft). TakesNext text rows v (Ok (Some taken)) (left_by reader after lines)) c.self.view_is

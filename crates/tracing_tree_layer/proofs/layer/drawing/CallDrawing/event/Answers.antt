@@ -19,11 +19,11 @@ returns g c =
     let current = current_of forest context in
     let planned = (rw c.planner.ensures at c.in_ok-event.ensures) ∙ ap (plan_before_event settings forest current) c.begin.ensures in
     let same = ap (turn_of_plan settings context forest) planned ∙ turn-event settings context forest current last in
-    let row = event_row settings timer forest (g.E.ToldEvent.told c.args.event.now) context in
+    let row = event_row settings timer forest (g.E.EventParts.whole c.args.event.now) context in
     let faults = timer_faults_at settings timer forest context in
     let before = turn_before_event settings context forest last current in
     let Q : Bool → Type 0 = λ quiet. Drafts settings forest (then_turn before (turn_of_row row)) faults quiet c.event_row.result (string_bytes c.args.page.now) (string_bytes c.event_row.new.page) c.event.new.plan in
-    subst Q (sym (fits-event settings timer forest (g.E.ToldEvent.told c.args.event.now) context c.args.depth _ c.check_width.result c.requires.depth c.event_level-level.ensures c.check_width.ensures c.in_ok-check_width.was))
+    subst Q (sym (fits-event settings timer forest (g.E.EventParts.whole c.args.event.now) context c.args.depth _ c.check_width.result c.requires.depth c.event_level-level.ensures c.check_width.ensures c.in_ok-check_width.was))
     (drafts_event settings context forest before row faults c.event_row.result (string_bytes c.args.page.now) (string_bytes c.rows-2.new.page) (string_bytes c.event_row.new.page) c.event.new.plan
     same (rw c.rows.ensures at c.in_ok-rows.ensures) c.event_row.ensures)
 
@@ -39,11 +39,11 @@ returns-in_err-rows g c =
     let planned = (rw c.planner.ensures at c.in_ok-event.ensures) ∙ ap (plan_before_event settings forest current) c.begin.ensures in
     let same = ap (turn_of_plan settings context forest) planned ∙ turn-event settings context forest current last in
     let p = err_from_is_err_and c.from_residual-in_err-rows.result c.from_residual-in_err-rows.ensures.1 in
-    let row = event_row settings timer forest (g.E.ToldEvent.told c.args.event.now) context in
+    let row = event_row settings timer forest (g.E.EventParts.whole c.args.event.now) context in
     let faults = timer_faults_at settings timer forest context in
     let before = turn_before_event settings context forest last current in
     let Q : Bool → Type 0 = λ quiet. Drafts settings forest (then_turn before (turn_of_row row)) faults quiet c.from_residual-in_err-rows.result (string_bytes c.args.page.now) (string_bytes c.rows-2.new.page) c.event.new.plan in
-    subst Q (sym (fits-event settings timer forest (g.E.ToldEvent.told c.args.event.now) context c.args.depth _ c.check_width.result c.requires.depth c.event_level-level.ensures c.check_width.ensures c.in_ok-check_width.was))
+    subst Q (sym (fits-event settings timer forest (g.E.EventParts.whole c.args.event.now) context c.args.depth _ c.check_width.result c.requires.depth c.event_level-level.ensures c.check_width.ensures c.in_ok-check_width.was))
     (rw (p.1, p.2) (refuses_event settings context forest before row faults _
     (string_bytes c.args.page.now) (string_bytes c.rows-2.new.page) c.event.new.plan
     same (rw c.rows.ensures at c.in_err-rows.ensures)))

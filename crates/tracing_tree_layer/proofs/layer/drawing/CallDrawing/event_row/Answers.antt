@@ -13,7 +13,7 @@ pub returns : goal.returns
 returns g c =
     let self = c.args.self.now in
     let timer = g.FT.FormatTime.timer c.args.timer.now in
-    let row = event_row self.config.now timer (g.S.LookupSpan.forest self.spans.now) (g.E.ToldEvent.told c.args.event.now) self.context.now in
+    let row = event_row self.config.now timer (g.S.LookupSpan.forest self.spans.now) (g.E.EventParts.whole c.args.event.now) self.context.now in
     let P : Bool → Type 0 = λ faults. DrawsRows self.config.now (row ∷ []) faults (Ok tt) (string_bytes c.args.page.now) (string_bytes c.end.new.out) in
     subst P (sym c.in_ok-event_block.ensures.has)
     (row-drawn self.config.now row c.drawing-drawing.result c.in_ok-place.place

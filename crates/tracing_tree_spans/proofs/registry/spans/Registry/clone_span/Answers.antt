@@ -30,7 +30,7 @@ returns-then-handles c =
 pub invariant_of-self : goal.invariant_of-self
 invariant_of-self c = (
   kept-update handle_more one_more more-ties c.self.inside.nodes _ _ c.args.id c.self.invariant.0 c.add_handle.ensures,
-  tied-update handle_more one_more more-ties c.self.inside.nodes _ c.args.id c.self.invariant.1 c.add_handle.ensures,
+  tied-update c.self.inside.branches.branches.items handle_more one_more more-ties c.self.inside.nodes _ c.args.id c.self.invariant.1 c.add_handle.ensures,
 )
 
 pub returns : goal.returns

@@ -13,7 +13,7 @@ remove_upward-requires-clause-kept c =
     kept-none _ c.self.inside.next (kept-update handle_less one_less less-ties c.self.inside.nodes _ _ c.args.id c.self.invariant.0 c.take_handle.ensures)
 
 pub remove_upward-requires-clause-tied : goal.remove_upward-requires-clause-tied
-remove_upward-requires-clause-tied c = tied-update handle_less one_less less-ties c.self.inside.nodes _ c.args.id c.self.invariant.1 c.take_handle.ensures
+remove_upward-requires-clause-tied c = tied-update c.self.inside.branches.branches.items handle_less one_less less-ties c.self.inside.nodes _ c.args.id c.self.invariant.1 c.take_handle.ensures
 
 pub remove_upward-requires-clause-all : goal.remove_upward-requires-clause-all
 remove_upward-requires-clause-all c =

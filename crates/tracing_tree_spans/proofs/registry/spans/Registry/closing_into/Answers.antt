@@ -2,7 +2,7 @@ use Rattle.std.proofs.Common.{◌≡◌, ◌≢◌, length, reverse, rules, sym,
 use Rattle.std.proofs.lemmas.Result.{err_from_is_err_and}
 use Rattle.tracing_tree_spans.specs.Registry.Forest.{IsGrownForest, closing_of}
 use Rattle.tracing_tree_spans.proofs.KeptLists.{kept-id}
-use Rattle.tracing_tree_spans.proofs.Registers.{seen, no-handle, zero-handles, some-handles, kept-own, closing-one, closing-whole, closing-whole-is, empty-part, some-part}
+use Rattle.tracing_tree_spans.proofs.Registers.{seen, no-handle, zero-handles, some-handles, kept-own, stored-path, closing-one, closing-whole, closing-whole-is, empty-part, some-part}
 use Rattle.tracing_tree_spans.proofs.registry.spans.Registry.closing_into.Goals as goal
 
 pub returns-in_default-clause-lists : goal.returns-in_default-clause-lists
@@ -81,3 +81,8 @@ returns-clause-last c =
     let here = seen c.self.inside.nodes _ _ c.args.id _ c.self.view_is (sym c.in-Some.ensures) in
     λ some. closing-one c.args.self.now (subst IsGrownForest c.self.view_is c.self.invariant.0.0) c.args.id _ here
     (λ none. c.if-handles-eq0.false (c.handles.ensures ∙ none)) (λ none. some ((returns-clause-lists c).1 ∙ none))
+
+pub closing_part-part-requires-clause-path : goal.closing_part-part-requires-clause-path
+closing_part-part-requires-clause-path c =
+    stored-path c.self.inside.branches.branches.items c.self.inside.nodes c.self.invariant.1 c.in-Some.node.now.span.id _ (kept-own c.self.inside.nodes c.args.id c.in-Some.node.now (sym c.in-Some.ensures))
+    c.path.result.now c.path.ensures c.path-path.result.now c.path-path.ensures

@@ -1,14 +1,18 @@
-use Rattle.std.proofs.Common.{List, reverse, rules, sym, ap, ◌∙◌, subst}
+use Rattle.std.proofs.Common.{◌≡◌, IfOk, List, reverse, rules, sym, ap, ◌∙◌, subst}
 use Rattle.std.proofs.lemmas.List.{reverse-reverse}
 use Rattle.tracing_tree_spans.specs.Registry.Forest.{IsGrownForest, path_of}
 use Rattle.tracing_tree_base.specs.declared.context.Id.{Id}
 use Rattle.tracing_tree_spans.proofs.GrownForests.{as_forest}
 use Rattle.tracing_tree_spans.proofs.PathLaws.{path_of-whole}
-use Rattle.tracing_tree_spans.proofs.Registers.{seen, error-live, path-gone, if-turned}
+use Rattle.tracing_tree_spans.proofs.Registers.{seen, stored-whole, error-live, path-gone, if-turned}
 use Rattle.tracing_tree_spans.proofs.registry.spans.Registry.scope.Goals as goal
 
 pub returns-in-Some-clause-scope : goal.returns-in-Some-clause-scope
-returns-in-Some-clause-scope c = search rules
+returns-in-Some-clause-scope c =
+    let stored = stored-whole c.self.inside.branches.branches.items c.self.inside.nodes c.self.inside.next c.args.self.now c.self.view_is c.self.invariant.1 c.args.id _ (sym c.in-Some.ensures)
+    c.path.result.now c.path.ensures c.path-in-Some.result.now c.path-in-Some.ensures in
+    let turned : IfOk c.collect.result (λ scope. scope.items ≡ reverse c.path-in-Some.result.now) = search rules in
+    rw stored at turned
 
 pub returns-in-Some-clause-whole : goal.returns-in-Some-clause-whole
 returns-in-Some-clause-whole c =

@@ -1,7 +1,7 @@
 use Rattle.std.proofs.Common.{length, refl, sym, ap, ◌∙◌}
 use Rattle.std.proofs.lemmas.List.{length-reverse}
 use Rattle.tracing_tree_spans.proofs.KeptLists.{kept-id}
-use Rattle.tracing_tree_spans.proofs.Registers.{seen, no-handle, zero-handles, some-handles, kept-own, closing-whole}
+use Rattle.tracing_tree_spans.proofs.Registers.{seen, no-handle, zero-handles, some-handles, kept-own, stored-path, closing-whole}
 use Rattle.tracing_tree_spans.proofs.registry.spans.Registry.try_close.Goals as goal
 
 pub returns-in_default : goal.returns-in_default
@@ -26,3 +26,8 @@ close-requires-clause-counted c =
     let whole = closing-whole c.self.inside.nodes c.self.inside.next c.args.self.now c.args.id c.in-Some.node.now.span.id c.closing_part-count.result.now c.self.view_is
     (kept-id c.self.inside.nodes c.args.id c.in-Some.node.now (sym c.in-Some.ensures)) c.closing_part-count.ensures in
     sym (length-reverse c.closing_part-count.result.now) ∙ ap length whole
+
+pub closing_part-count-requires-clause-path : goal.closing_part-count-requires-clause-path
+closing_part-count-requires-clause-path c =
+    stored-path c.self.inside.branches.branches.items c.self.inside.nodes c.self.invariant.1 c.in-Some.node.now.span.id _ (kept-own c.self.inside.nodes c.args.id c.in-Some.node.now (sym c.in-Some.ensures))
+    c.path.result.now c.path.ensures c.path-path.result.now c.path-path.ensures

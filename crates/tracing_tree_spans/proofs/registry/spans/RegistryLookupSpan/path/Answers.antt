@@ -1,12 +1,16 @@
-use Rattle.std.proofs.Common.{rules, sym, ◌∙◌, subst}
+use Rattle.std.proofs.Common.{◌≡◌, IfOk, rules, sym, ◌∙◌, subst}
 use Rattle.tracing_tree_spans.specs.Registry.Forest.{IsGrownForest}
 use Rattle.tracing_tree_spans.proofs.GrownForests.{as_forest}
 use Rattle.tracing_tree_spans.proofs.PathLaws.{path_of-whole}
-use Rattle.tracing_tree_spans.proofs.Registers.{seen, error-live, path-gone, if-whole}
+use Rattle.tracing_tree_spans.proofs.Registers.{seen, stored-whole, error-live, path-gone, if-whole}
 use Rattle.tracing_tree_spans.proofs.registry.spans.RegistryLookupSpan.path.Goals as goal
 
 pub returns-in-Some-clause-path : goal.returns-in-Some-clause-path
-returns-in-Some-clause-path c = search rules
+returns-in-Some-clause-path c =
+    let stored = stored-whole c.self.inside.branches.branches.items c.self.inside.nodes c.self.inside.next c.args.self.now c.self.view_is c.self.invariant.1 c.args.id _ (sym c.in-Some.ensures)
+    c.path.result.now c.path.ensures c.path-in-Some.result.now c.path-in-Some.ensures in
+    let copied : IfOk c.to_vec.result (λ path. path.items ≡ c.path-in-Some.result.now) = search rules in
+    rw stored at copied
 
 pub returns-in-Some-clause-whole : goal.returns-in-Some-clause-whole
 returns-in-Some-clause-whole c =

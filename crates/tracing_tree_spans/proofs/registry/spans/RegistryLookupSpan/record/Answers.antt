@@ -21,7 +21,7 @@ pub invariant_of-self : goal.invariant_of-self
 invariant_of-self c = (
   kept-attempt (fields_more c.args.fields) (longer c.args.fields) (fields-ties c.args.fields) c.record.result c.self.inside.nodes _ _ c.args.id
       c.self.invariant.0 c.record.ensures.ok c.record.ensures.err,
-  tied-attempt (fields_more c.args.fields) (longer c.args.fields) (fields-ties c.args.fields) c.record.result c.self.inside.nodes _ c.args.id
+  tied-attempt c.self.inside.branches.branches.items (fields_more c.args.fields) (longer c.args.fields) (fields-ties c.args.fields) c.record.result c.self.inside.nodes _ c.args.id
       c.self.invariant.1 c.record.ensures.ok c.record.ensures.err,
 )
 

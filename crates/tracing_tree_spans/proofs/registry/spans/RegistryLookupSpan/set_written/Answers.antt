@@ -15,7 +15,7 @@ printed-ties = record {
 pub invariant_of-self : goal.invariant_of-self
 invariant_of-self c = (
   kept-update kept_printed printed_span printed-ties c.self.inside.nodes _ _ c.args.id c.self.invariant.0 c.set_written.ensures,
-  tied-update kept_printed printed_span printed-ties c.self.inside.nodes _ c.args.id c.self.invariant.1 c.set_written.ensures,
+  tied-update c.self.inside.branches.branches.items kept_printed printed_span printed-ties c.self.inside.nodes _ c.args.id c.self.invariant.1 c.set_written.ensures,
 )
 
 pub returns : goal.returns

@@ -1,0 +1,2 @@
+pub mod Fitted
+mod Worked
