@@ -6,10 +6,10 @@ abbrev pub is_among : ℕ → List ℕ → Bool
 is_among id ids = list_any (λ other. other == id) ids
 
 -- the place of the last entry into this span, of entries of which the first has this place
-abbrev pub place_of : ℕ → ℕ → List ℕ → Option ℕ
-place_of id place [] = None
-place_of id place (last ∷ before) =
-    if last == id then Some place else place_of id (place + 1) before
+abbrev pub entry_place : ℕ → ℕ → List ℕ → Option ℕ
+entry_place id place [] = None
+entry_place id place (last ∷ before) =
+    if last == id then Some place else entry_place id (place + 1) before
 
 -- the entries without the last one into this span, as an exit leaves them
 abbrev pub without_last : ℕ → List ℕ → List ℕ

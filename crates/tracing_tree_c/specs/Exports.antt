@@ -7,7 +7,7 @@ use Rattle.tracing_tree_layer.specs.declared.call.Reply.{Reply}
 use Rattle.tracing_tree_layer.specs.declared.call.Reply.TheVariants.{Span, Closed}
 use Rattle.tracing_tree_c.specs.Owned.{Kept}
 use Rattle.tracing_tree_c.specs.Trees.{Makes, current_id, seen_tree}
-use Rattle.tracing_tree_c.specs.Settings.{CanOpen, opened, timer_of}
+use Rattle.tracing_tree_c.specs.Settings.{CanOpen, new_tree_seen, timer_of}
 use Rattle.tracing_tree_c.specs.declared.foreign.Unreadable.TheVariants as Fault
 use Rattle.tracing_tree_c.specs.declared.drawing.Drawing.{Drawing}
 use Rattle.tracing_tree_c.specs.declared.settings.SettingsRef.{SettingsRef}
@@ -61,7 +61,7 @@ AnswersWith after IsKnown IsText IsSmall Does status before later old new =
 abbrev pub IsOpened : SettingsRef → Kept → Type 0
 IsOpened given None = ⊥
 IsOpened given (Some new) =
-    (timer : Timer) × (timer_of given ≡ Some timer) × (seen_tree new ≡ opened given timer)
+    (timer : Timer) × (timer_of given ≡ Some timer) × (seen_tree new ≡ new_tree_seen given timer)
     × (new.entered ≡ [])
 
 abbrev pub opening_status : Opening → ℕ

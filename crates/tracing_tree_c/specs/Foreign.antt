@@ -41,8 +41,8 @@ IsUtf8Field field = IsUtf8 field.name.now × IsUtf8 field.value.now
 abbrev pub IsSmallField : FieldRef → Type 0
 IsSmallField field = IsSmallText field.name.now × IsSmallText field.value.now
 
-abbrev pub field_of : FieldRef → Field
-field_of field = record { name = field.name.now; value = field.value.now }
+abbrev pub foreign_field : FieldRef → Field
+foreign_field field = record { name = field.name.now; value = field.value.now }
 
 abbrev pub IsUtf8Fields : List FieldRef → Type 0
 IsUtf8Fields fields = AllByRecursion IsUtf8Field fields
@@ -50,8 +50,8 @@ IsUtf8Fields fields = AllByRecursion IsUtf8Field fields
 abbrev pub HasNoFields : List FieldRef → Type 0
 HasNoFields fields = fields ≡ []
 
-abbrev pub fields_of : List FieldRef → List Field
-fields_of fields = map field_of fields
+abbrev pub foreign_fields : List FieldRef → List Field
+foreign_fields fields = map foreign_field fields
 
 -- ---- strings of the time
 
@@ -63,8 +63,8 @@ IsSmallTime time = IsSmallText time.moment.now × IsSmallText time.elapsed.now
 
 -- ---- kinds
 
-abbrev pub level_of : ℕ → Option Level
-level_of number =
+abbrev pub level_of_number : ℕ → Option Level
+level_of_number number =
     if number == 0 then Some Trace
     else if number == 1 then Some Debug
     else if number == 2 then Some Info
@@ -80,8 +80,8 @@ parent_of kind id =
     else None
 
 -- ids begin at 1, so 0 means no span
-abbrev pub current_of : ℕ → Option Id
-current_of id = if id == 0 then None else Some (id_of id)
+abbrev pub foreign_current : ℕ → Option Id
+foreign_current id = if id == 0 then None else Some (id_of id)
 
 -- ---- contexts
 
@@ -96,7 +96,7 @@ abbrev pub IsSmallContext : ContextRef → Type 0
 IsSmallContext context = IsTrue context.has_thread_name → IsSmallText context.thread_name.now
 
 pub record IsContextOf (given : ContextRef) (context : Context) : Type 0 where
-  pub current : context.current ≡ current_of given.current
+  pub current : context.current ≡ foreign_current given.current
   pub thread_id : context.thread_id ≡ given.thread_id
   pub thread_name : context.thread_name ≡ thread_name_of given
   pub mono : context.moment.mono ≡ given.mono
@@ -131,12 +131,12 @@ pub record IsNewOf (given : AttributesRef) (fields : List FieldRef) (when : Cont
     name = given.name.now;
     target = given.target.now;
     parent = parent;
-    fields = fields_of fields;
+    fields = foreign_fields fields;
   }) context
 
 abbrev pub IsKnownEvent : EventRef → Type 0
 IsKnownEvent given =
-    IsSome (level_of given.level) × IsSome (parent_of given.parent_kind given.parent)
+    IsSome (level_of_number given.level) × IsSome (parent_of given.parent_kind given.parent)
 
 pub record IsUtf8Event (given : EventRef) (fields : List FieldRef)
     (when : ContextRef) : Type 0 where
@@ -149,18 +149,18 @@ pub record IsEventOf (given : EventRef) (fields : List FieldRef) (when : Context
   pub level : Level
   pub parent : Parent
   pub context : Context
-  pub is_level : level_of given.level ≡ Some level
+  pub is_level : level_of_number given.level ≡ Some level
   pub is_parent : parent_of given.parent_kind given.parent ≡ Some parent
   pub is_context : IsContextOf when context
   pub is_call : call ≡ Event (record {
     level = level;
     target = given.target.now;
     parent = parent;
-    fields = fields_of fields;
+    fields = foreign_fields fields;
   }) context
 
 abbrev pub IsRecordOf : ℕ → List FieldRef → Call → Type 0
-IsRecordOf id fields call = call ≡ Record (id_of id) (record { fields = fields_of fields })
+IsRecordOf id fields call = call ≡ Record (id_of id) (record { fields = foreign_fields fields })
 
 pub record IsCloseOf (id : ℕ) (when : ContextRef) (call : Call) : Type 0 where
   pub context : Context

@@ -45,8 +45,8 @@ timer_of given =
     else None
 
 -- what is seen of a new tree
-abbrev pub opened : SettingsRef → Timer → Seen
-opened given timer = record {
+abbrev pub new_tree_seen : SettingsRef → Timer → Seen
+new_tree_seen given timer = record {
   settings = settings_of given;
   timer = timer;
   state = opening_state (Some (id_of 1));

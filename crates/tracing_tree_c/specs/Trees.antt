@@ -69,8 +69,8 @@ abbrev pub written_of : TimeRef → Written
 written_of given = record { moment = given.moment.now; elapsed = given.elapsed.now }
 
 -- the same tree, with its last text removed, which shows these strings as the time
-abbrev pub timed : Written → Drawing → Drawing
-timed written drawing = record (blank drawing) {
+abbrev pub with_time_text : Written → Drawing → Drawing
+with_time_text written drawing = record (blank drawing) {
   layered = record (blank drawing).layered {
     layer = record (blank drawing).layered.layer { timer = Own written };
   };
@@ -78,7 +78,7 @@ timed written drawing = record (blank drawing) {
 
 -- the tree shows these strings as the time from then on
 abbrev pub SetsTime : Written → Result Reply Refusal → Drawing → Drawing → Type 0
-SetsTime written answer old new = (answer ≡ Ok Done) × (new ≡ timed written old)
+SetsTime written answer old new = (answer ≡ Ok Done) × (new ≡ with_time_text written old)
 
 abbrev pub is_live_in : Drawing → ℕ → Bool
 is_live_in drawing id = is_live drawing.layered.forest (id_of id)

@@ -1,7 +1,7 @@
 //! What is behind a handle: a registry with a layer, and the spans that are entered.
 
 ghost use Rattle.std.specs.Prelude.{◌≡◌};
-ghost use Rattle.tracing_tree_c.specs.Trees.{IsCalled, blank, current_id, is_live_in, is_lost, timed};
+ghost use Rattle.tracing_tree_c.specs.Trees.{IsCalled, blank, current_id, is_live_in, is_lost, with_time_text};
 
 use crate::entered::Entered;
 use crate::lent::Lent;
@@ -61,7 +61,7 @@ impl Drawing {
 
     // Sets the strings that are shown as the time from now on.
     pub(crate) fn set_time(&mut self, alloc: Global, written: Written)
-        ensures { self.new ≡ timed written self.old }
+        ensures { self.new ≡ with_time_text written self.old }
     {
         self.clear(alloc);
         drop(self.layered.replace_timer(TreeTimer::Own(written)));

@@ -1,7 +1,7 @@
 //! The spans that are entered.
 
 ghost use Rattle.std.specs.Prelude.{◌≡◌, ◌∷◌, [], OnOk, OnErr};
-ghost use Rattle.tracing_tree_c.specs.Entered.{is_among, place_of, without_last};
+ghost use Rattle.tracing_tree_c.specs.Entered.{entry_place, is_among, without_last};
 
 use std::alloc::{AllocError, Global};
 use std::marker::Model;
@@ -68,7 +68,7 @@ impl Entered {
 
 // Returns the place of the last entry into a span.
 fn place_of(ids: &[u64], id: u64) -> Option<usize>
-    ensures { result ≡ place_of id 0 ids.now }
+    ensures { result ≡ entry_place id 0 ids.now }
 {
     let mut place = 0;
     let mut rest = ids;

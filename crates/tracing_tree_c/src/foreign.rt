@@ -3,7 +3,7 @@
 ghost use Rattle.std.specs.Prelude.{◌≡◌, ◌∷◌, [], ◌↔◌, ⊤, IsTrue, IsUtf8};
 ghost use Rattle.tracing_tree_c.specs.Parts.{call_of_close, call_of_event, call_of_new};
 ghost use Rattle.tracing_tree_c.specs.Trees.{written_of};
-ghost use Rattle.tracing_tree_c.specs.Foreign.{Reads, IsUtf8Field, IsUtf8Fields, IsUtf8Context, IsUtf8New, IsUtf8Event, IsUtf8Time, IsSmallTime, IsSmallText, IsSmallField, IsSmallContext, IsSmallNew, IsKnownNew, IsKnownEvent, HasNoFields, IsContextOf, IsNewOf, IsEventOf, IsRecordOf, IsCloseOf, field_of, fields_of, level_of, parent_of, current_of, thread_name_of};
+ghost use Rattle.tracing_tree_c.specs.Foreign.{Reads, IsUtf8Field, IsUtf8Fields, IsUtf8Context, IsUtf8New, IsUtf8Event, IsUtf8Time, IsSmallTime, IsSmallText, IsSmallField, IsSmallContext, IsSmallNew, IsKnownNew, IsKnownEvent, HasNoFields, IsContextOf, IsNewOf, IsEventOf, IsRecordOf, IsCloseOf, foreign_field, foreign_fields, level_of_number, parent_of, foreign_current, thread_name_of};
 
 use crate::parts::{Close, LentEvent, NewSpan};
 use crate::timer::Written;
@@ -154,7 +154,7 @@ fn text_in(alloc: Global, bytes: &[u8], trusted: bool) -> Result<Text, Unreadabl
 fn field_in(alloc: Global, given: &FieldRef, trusted: bool) -> Result<Field, Unreadable>
     requires { IsTrue trusted → IsUtf8Field given.now }
     ensures { Reads ⊤ (IsUtf8Field given.now) (IsSmallField given.now)
-        (λ field. field ≡ field_of given.now) result }
+        (λ field. field ≡ foreign_field given.now) result }
 {
     let name = text_in(alloc, given.name, trusted)?;
     let value = text_in(alloc, given.value, trusted)?;
@@ -165,7 +165,7 @@ fn field_in(alloc: Global, given: &FieldRef, trusted: bool) -> Result<Field, Unr
 fn fields_in(alloc: Global, given: &[FieldRef], trusted: bool) -> Result<Fields, Unreadable>
     requires { IsTrue trusted → IsUtf8Fields given.now }
     ensures { Reads ⊤ (IsUtf8Fields given.now) (HasNoFields given.now)
-        (λ fields. fields ≡ fields_of given.now) result }
+        (λ fields. fields ≡ foreign_fields given.now) result }
 {
     if given.len() == 1 {
         return field_alone_in(alloc, &given[0], trusted);
@@ -178,7 +178,7 @@ fn fields_in(alloc: Global, given: &[FieldRef], trusted: bool) -> Result<Fields,
 fn field_alone_in(alloc: Global, given: &FieldRef, trusted: bool) -> Result<Fields, Unreadable>
     requires { IsTrue trusted → IsUtf8Field given.now }
     ensures { Reads ⊤ (IsUtf8Field given.now) (IsSmallField given.now)
-        (λ fields. fields ≡ field_of given.now ∷ []) result }
+        (λ fields. fields ≡ foreign_field given.now ∷ []) result }
 {
     match field_in(alloc, given, trusted) {
         Ok(field) => Ok(Fields::one(alloc, field)),
@@ -189,7 +189,7 @@ fn field_alone_in(alloc: Global, given: &FieldRef, trusted: bool) -> Result<Fiel
 fn many_fields_in(alloc: Global, given: &[FieldRef], trusted: bool) -> Result<Fields, Unreadable>
     requires { IsTrue trusted → IsUtf8Fields given.now }
     ensures { Reads ⊤ (IsUtf8Fields given.now) (HasNoFields given.now)
-        (λ fields. fields ≡ fields_of given.now) result }
+        (λ fields. fields ≡ foreign_fields given.now) result }
 {
     let mut fields = Vec::with_capacity(alloc, given.len())?;
     for field in given {
@@ -202,7 +202,7 @@ fn many_fields_in(alloc: Global, given: &[FieldRef], trusted: bool) -> Result<Fi
 }
 
 fn level_in(number: u32) -> Option<Level>
-    ensures { result ≡ level_of number }
+    ensures { result ≡ level_of_number number }
 {
     match number {
         0 => Some(Level::Trace),
@@ -226,7 +226,7 @@ fn parent_in(kind: u32, id: u64) -> Option<Parent>
 }
 
 fn current_in(id: u64) -> Option<Id>
-    ensures { result ≡ current_of id }
+    ensures { result ≡ foreign_current id }
 {
     if id == 0 { None } else { Some(Id(id)) }
 }
@@ -312,7 +312,7 @@ pub struct EventTexts<'a> {
 
 impl<'a> Model for EventTexts<'a> {
     ghost use Rattle.tracing_tree_spans.specs.declared.registry.Event.{Event};
-    ghost use Rattle.tracing_tree_c.specs.Foreign.{IsUtf8Fields, fields_of};
+    ghost use Rattle.tracing_tree_c.specs.Foreign.{IsUtf8Fields, foreign_fields};
 
     ghost Value = { Event };
 
@@ -320,7 +320,7 @@ impl<'a> Model for EventTexts<'a> {
       level = e.level;
       target = e.target.now;
       parent = e.parent;
-      fields = fields_of e.fields.now;
+      fields = foreign_fields e.fields.now;
     } };
 
     ghost invariant = { λ e. IsUtf8Fields e.fields.now };

@@ -5,7 +5,7 @@ ghost use Rattle.std.specs.Option.{is_some};
 ghost use Rattle.tracing_tree_time.specs.Clock.{clock_timer};
 ghost use Rattle.tracing_tree_c.specs.Exports.{Opens};
 ghost use Rattle.tracing_tree_c.specs.Owned.{Kept, kept_coded, owned};
-ghost use Rattle.tracing_tree_c.specs.Settings.{opened};
+ghost use Rattle.tracing_tree_c.specs.Settings.{new_tree_seen};
 ghost use Rattle.tracing_tree_c.specs.Trees.{Performs, seen_tree};
 
 use crate::act::Act;
@@ -78,7 +78,7 @@ impl Tree {
 // Returns a tree without spans.
 fn fresh(alloc: Global, settings: &SettingsRef, clock: Clock<'static>) -> Drawing
     requires { 0 < settings.now.wraparound }
-    ensures seen { seen_tree result ≡ opened settings.now (clock_timer clock.entry) }
+    ensures seen { seen_tree result ≡ new_tree_seen settings.now (clock_timer clock.entry) }
     ensures entered { result.entered ≡ [] }
 {
     let layer = HierarchicalLayer::with_config(alloc, settings.config(), Lent::new(alloc));

@@ -5,7 +5,7 @@ ghost use Rattle.tracing_tree_base.specs.declared.context.Moment.{Moment};
 ghost use Rattle.tracing_tree_lines.specs.Lines.Spelled.{input_lines};
 ghost use Rattle.ttree_source.specs.Source.{interpret, source_after};
 ghost use Rattle.ttree_go_test.specs.Failures.{some_failed};
-ghost use Rattle.ttree_go_test.specs.GoTest.{GoState, go_ended, go_takes, has_failed, moved, nothing_run};
+ghost use Rattle.ttree_go_test.specs.GoTest.{GoState, any_failed, go_ended, go_takes, moved, nothing_run};
 ghost use Rattle.ttree_go_test.specs.Texts.{own_name};
 ghost use Rattle.ttree_source.specs.Marks.{is_empty};
 
@@ -22,13 +22,13 @@ use ttree_source::{Notes, draw_source};
 /// `start`, `run` or `output`.
 pub fn tests_fail_by_a_line_or_a_package_that_runs()
     ensures { (next : ℕ) (moment : Moment) (lines : List (List ℕ)) →
-        has_failed (source_after go_takes go_ended (nothing_run next moment) lines)
+        any_failed (source_after go_takes go_ended (nothing_run next moment) lines)
         ≡ some_failed lines (interpret go_takes (nothing_run next moment) lines).source }
 {}
 
 /// The counts say whether tests have failed: a test or a package failed, or a package didn't end.
 pub fn failures_agree_with_the_counts()
-    ensures { (s : GoState) → has_failed s
+    ensures { (s : GoState) → any_failed s
         ≡ (not (s.tally.failed == 0) || not (s.tally.packages_failed == 0)) }
 {}
 

@@ -4,7 +4,7 @@ ghost use Rattle.std.specs.Prelude.{◌≡◌, [], ℕ, List, None, Option, flat
 ghost use Rattle.json.specs.Json.{Json};
 ghost use Rattle.tracing_tree_base.specs.declared.context.Moment.{Moment};
 ghost use Rattle.ttree_go_test.specs.Closing.{ClosesAll, is_end};
-ghost use Rattle.ttree_go_test.specs.GoTest.{go_ends, go_takes, kind_in, moved, nothing_run, printed, ran, tests_of};
+ghost use Rattle.ttree_go_test.specs.GoTest.{go_ends, go_takes, moved, nothing_run, output_kind, printed, ran, tests_of};
 ghost use Rattle.ttree_go_test.specs.Names.{named};
 ghost use Rattle.ttree_go_test.specs.Nesting.{PlacesCalls};
 ghost use Rattle.ttree_go_test.specs.Printed.{ShowsEachLine, build_prints, plain_line, texts_added};
@@ -27,7 +27,7 @@ pub fn tests_print_in_their_own_spans()
     ensures { (next : ℕ) (moment : Moment) (before : List (List ℕ)) (value : Json)
         (path test text : List ℕ) →
         let s = (interpret go_takes (nothing_run next moment) before).source in
-        PlacesCalls path test s (printed (kind_in value) path test text s) }
+        PlacesCalls path test s (printed (output_kind value) path test text s) }
 {}
 
 /// After any lines, a test that starts opens the span of the nearest running test that it is nested

@@ -5,7 +5,7 @@ ghost use Rattle.tracing_tree_base.specs.declared.context.Moment.{Moment};
 ghost use Rattle.tracing_tree_lines.specs.Lines.Spelled.{input_lines};
 ghost use Rattle.ttree_source.specs.Source.{calls_of, source_after};
 ghost use Rattle.ttree_tap.specs.Failures.{after_all, calls_before_counts, has_error};
-ghost use Rattle.ttree_tap.specs.Tally.{has_failed};
+ghost use Rattle.ttree_tap.specs.Tally.{tally_has_failure};
 ghost use Rattle.ttree_tap.specs.Tap.{nothing_run, tally_call, tap_ended, tap_ends, tap_takes};
 
 use std::alloc::Global;
@@ -20,7 +20,7 @@ use ttree_tap::Tap;
 /// an ERROR. So it is if only what failed is shown.
 pub fn tap_fails_by_a_row()
     ensures { (is_failed_only : Bool) (next : ℕ) (moment : Moment) (lines : List (List ℕ)) →
-        has_failed
+        tally_has_failure
         (source_after tap_takes tap_ended (nothing_run is_failed_only next moment) lines).tally
         ≡ has_error (calls_before_counts (nothing_run is_failed_only next moment) lines) }
 {}

@@ -19,11 +19,11 @@ use tracing_tree::layer::HierarchicalLayer;
 use tracing_tree::layered::Layered;
 use tracing_tree::lines::{BLOCK, LineCause, LineFault, settings_of_line};
 use tracing_tree::time::Moment;
-use ttree_adapters::{Mapped, Mapping, OneRow, RowClock};
+use ttree_adapters::{Mapping, OneRowCalls, RowClock};
 use ttree_chrome::{Leaves, TraceCalls, trace_calls};
 use ttree_source::run::make;
 use ttree_source::values::value_of;
-use ttree_source::{CallLines, Notes, Problem, Source, SourceRun, draw_source};
+use ttree_source::{CallLines, Notes, Problem, Source, SourceRun, draw_source, run_source};
 use ttree_terminal::Shaping;
 
 // Returns the moment of the calls before a source knows one.
@@ -87,13 +87,14 @@ pub fn draw_calls<R: AllocGlobal + Eprint + Print, I: Read + Drop>(
     };
     let writer = Wrap::new(output(alloc, io::writer(rt), shaping)?);
     let layer = HierarchicalLayer::with_config(alloc, config, writer).with_timer(timer);
-    let mut layered = Layered::new(alloc, layer);
-    let mut source = Mapped::new(CallLines::new(alloc), OneRow);
+    let mut receiver = OneRowCalls::new(alloc, Layered::new(alloc, layer));
+    let mut source = CallLines::new(alloc);
     let mut reporter = Reporter::new(rt, origin, Unit::Line, true);
     reporter.lines_before = lines_before;
-    let run = draw_source(alloc, &mut source, &mut lines, &mut layered, &mut reporter);
+    let run = run_source(alloc, &mut source, &mut lines, &mut receiver, &mut reporter);
     let fault = after_lines(run.fault, lines_before);
-    Ok(report_run(&SourceRun { fault, ..run }, layered, &reporter))
+    let run = SourceRun { fault, ..run };
+    Ok(report_run(&run, receiver.into_receiver(), &reporter))
 }
 
 // Reports that a line isn't valid settings.

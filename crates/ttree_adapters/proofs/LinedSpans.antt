@@ -21,7 +21,7 @@ same_fields (field ∷ others) none =
     let both = either (is_lined field) (list_any is_lined others) none in
     (λ i. same_field field both.0 i ∷ same_fields others both.1 i)
 
-same_call : (call : Call) → has_lines call ≡ false → one_row_call call ≡ call
+pub same_call : (call : Call) → has_lines call ≡ false → one_row_call call ≡ call
 same_call (New attributes context) none =
     let both = either (has_line_end attributes.name) (list_any is_lined attributes.fields) none in
     (λ i. New (record attributes { name = same_text attributes.name both.0 i; fields = same_fields attributes.fields both.1 i }) context)

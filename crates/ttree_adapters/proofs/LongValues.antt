@@ -4,19 +4,19 @@ use Rattle.std.specs.List.{list_any}
 use Rattle.tracing_tree_base.specs.declared.field.Field.{Field}
 use Rattle.tracing_tree_layer.specs.declared.call.Call.{Call}
 use Rattle.tracing_tree_layer.specs.declared.call.Call.TheVariants.{New, Clone, Record, Event, Close}
-use Rattle.ttree_adapters.specs.Short.{has_long, is_long, short_call, short_field}
+use Rattle.ttree_adapters.specs.Short.{has_long, is_cut_field, short_call, short_field}
 
 pub either : (a b : Bool) → (a || b) ≡ false → (a ≡ false) × (b ≡ false)
 either true b none = cc
 either false b none = (refl, none)
 
-same_field : (field : Field) → is_long field ≡ false → short_field field ≡ field
+same_field : (field : Field) → is_cut_field field ≡ false → short_field field ≡ field
 same_field field none = rw none refl
 
-same_fields : (fields : List Field) → list_any is_long fields ≡ false → map short_field fields ≡ fields
+same_fields : (fields : List Field) → list_any is_cut_field fields ≡ false → map short_field fields ≡ fields
 same_fields [] none = refl
 same_fields (field ∷ others) none =
-    let both = either (is_long field) (list_any is_long others) none in
+    let both = either (is_cut_field field) (list_any is_cut_field others) none in
     (λ i. same_field field both.0 i ∷ same_fields others both.1 i)
 
 same_call : (call : Call) → has_long call ≡ false → short_call call ≡ call

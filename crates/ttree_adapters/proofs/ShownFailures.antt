@@ -13,7 +13,7 @@ use Rattle.tracing_tree_layer.specs.declared.call.Call.TheVariants.{New, Clone, 
 use Rattle.ttree_source.specs.Levels.{is_shown, rank, shown_calls}
 use Rattle.tracing_tree_spans.specs.declared.registry.Event.{Event as EventParts}
 use Rattle.tracing_tree_base.specs.declared.style.Level.{Level}
-use Rattle.ttree_adapters.specs.Failures.{FailuresState, Kept, all_kept, alone, failed, is_end, is_failure, kept, left_out, lines_of, no_lines, with_line, with_line_in, without_lines}
+use Rattle.ttree_adapters.specs.Failures.{FailuresState, Kept, all_kept, alone, call_kept, event_left_out, failed, is_end, is_failure_level, lines_of, no_lines, with_held_line, with_line_in, without_lines}
 
 module _ (min_level : Level) where
   -- none of these calls is shown
@@ -54,7 +54,7 @@ module _ (min_level : Level) where
       ∙ ap (λ (l : List Call). l ++ shown_calls min_level (line ∷ [])) below
       ∙ one_below line hidden
 
-  with_below : (span : ℕ) (line : Call) (s : FailuresState) → is_shown min_level line ≡ false → HoldsBelow s → HoldsBelow (with_line span line s)
+  with_below : (span : ℕ) (line : Call) (s : FailuresState) → is_shown min_level line ≡ false → HoldsBelow s → HoldsBelow (with_held_line span line s)
   with_below span line s hidden holds = record {
     least_is = holds.least_is;
     below = All-values-insert_entry nat_cmp span (lines_of span s ++ line ∷ []) AreBelow
@@ -87,7 +87,7 @@ module _ (min_level : Level) where
 
   below_keeps : (reaches : Bool) (event : EventParts) (context : Context) (s : FailuresState) → HoldsBelow s → nat_le (rank s.min_level) (rank event.level) ≡ reaches →
       Keeps (Event event context)
-      (if reaches then alone (Event event context) s else left_out event.fields context.current (Event event context) s)
+      (if reaches then alone (Event event context) s else event_left_out event.fields context.current (Event event context) s)
   below_keeps true event context s holds is = alone_keeps (Event event context) s holds
   below_keeps false event context s holds is =
       left_keeps (is_end event.fields) context.current (Event event context) s
@@ -97,13 +97,14 @@ module _ (min_level : Level) where
       Keeps (Event event context)
       (if fails then failed context.current (Event event context) s
       else if nat_le (rank s.min_level) (rank event.level) then alone (Event event context) s
-      else left_out event.fields context.current (Event event context) s)
+      else event_left_out event.fields context.current (Event event context) s)
   event_keeps true event context s holds = failed_keeps context.current (Event event context) s holds
   event_keeps false event context s holds =
       below_keeps (nat_le (rank s.min_level) (rank event.level)) event context s holds refl
 
-  keeps : (call : Call) (s : FailuresState) → HoldsBelow s → Keeps call (kept call s)
-  keeps (Event event context) s holds = event_keeps (is_failure event.level) event context s holds
+  keeps : (call : Call) (s : FailuresState) → HoldsBelow s → Keeps call (call_kept call s)
+  keeps (Event event context) s holds =
+      event_keeps (is_failure_level event.level) event context s holds
   keeps (Close id context) s holds = alone_keeps (Close id context) (without_lines id.0 s) (without_below id.0 s holds)
   keeps (New attributes context) s holds = alone_keeps (New attributes context) s holds
   keeps (Clone id) s holds = alone_keeps (Clone id) s holds
@@ -113,8 +114,8 @@ module _ (min_level : Level) where
   shown_of_all [] s holds = refl
   shown_of_all (call ∷ others) s holds =
       let first = keeps call s holds in
-      let next = (kept call s).state in
-      filter-append (is_shown min_level) (kept call s).calls (all_kept others next).calls
+      let next = (call_kept call s).state in
+      filter-append (is_shown min_level) (call_kept call s).calls (all_kept others next).calls
       ∙ ap (λ (l : List Call). l ++ shown_calls min_level (all_kept others next).calls) first.shown
       ∙ ap (λ (l : List Call). shown_calls min_level (call ∷ []) ++ l) (shown_of_all others next first.holds)
       ∙ sym (filter-append (is_shown min_level) (call ∷ []) others)

@@ -10,12 +10,12 @@ use Rattle.ttree_source.specs.Levels.{is_shown}
 use Rattle.ttree_adapters.specs.Mapping.{Made}
 use Rattle.ttree_adapters.specs.declared.counts.CountsAtLeast.{CountsAtLeast}
 
-abbrev pub is_message : Field → Bool
-is_message field = bytes_eq field.name (codes "message")
+abbrev pub is_message_field : Field → Bool
+is_message_field field = bytes_eq field.name (codes "message")
 
 -- an event with a message, or a call that isn't an event
 abbrev pub has_message : Call → Bool
-has_message (Event event context) = list_any is_message event.fields
+has_message (Event event context) = list_any is_message_field event.fields
 has_message (New attributes context) = true
 has_message (Clone id) = true
 has_message (Record id record_of_it) = true

@@ -26,12 +26,12 @@ no_lines min_level = record { min_level = min_level; held = [] }
 
 -- ---- what a call is
 
-abbrev pub is_failure : Level → Bool
-is_failure Error = true
-is_failure Warn = false
-is_failure Info = false
-is_failure Debug = false
-is_failure Trace = false
+abbrev pub is_failure_level : Level → Bool
+is_failure_level Error = true
+is_failure_level Warn = false
+is_failure_level Info = false
+is_failure_level Debug = false
+is_failure_level Trace = false
 
 -- The end of a test says how long the test took. Any other event is a line.
 abbrev pub is_end : List Field → Bool
@@ -46,8 +46,8 @@ abbrev pub without_lines : ℕ → FailuresState → FailuresState
 without_lines span s = record s { held = remove_entry (is_at (nat_cmp span)) s.held }
 
 -- one more line of a span
-abbrev pub with_line : ℕ → Call → FailuresState → FailuresState
-with_line span line s = record s {
+abbrev pub with_held_line : ℕ → Call → FailuresState → FailuresState
+with_held_line span line s = record s {
   held = insert_entry nat_cmp (without_lines span s).held span (lines_of span s ++ line ∷ []);
 }
 
@@ -62,7 +62,7 @@ without_lines_in None s = s
 
 -- a line of a span is held, and one without a span is left out
 abbrev pub with_line_in : Option Id → Call → FailuresState → FailuresState
-with_line_in (Some span) line s = with_line span.0 line s
+with_line_in (Some span) line s = with_held_line span.0 line s
 with_line_in None line s = s
 
 -- ---- calls
@@ -82,29 +82,29 @@ failed span call s =
     record { calls = lines_in span s ++ call ∷ []; state = without_lines_in span s }
 
 -- an event below the least level
-abbrev pub left_out : List Field → Option Id → Call → FailuresState → Kept
-left_out fields span call s =
+abbrev pub event_left_out : List Field → Option Id → Call → FailuresState → Kept
+event_left_out fields span call s =
     record { calls = []; state = if is_end fields then s else with_line_in span call s }
 
 abbrev pub event_kept : EventParts → Context → FailuresState → Kept
 event_kept event context s =
-    if is_failure event.level then failed context.current (Event event context) s
+    if is_failure_level event.level then failed context.current (Event event context) s
     else if nat_le (rank s.min_level) (rank event.level) then alone (Event event context) s
-    else left_out event.fields context.current (Event event context) s
+    else event_left_out event.fields context.current (Event event context) s
 
 -- An event below the least level is held with its span, unless it is the end of a test. A failure
 -- in the span brings back what is held, and the end of the span drops it.
-abbrev pub kept : Call → FailuresState → Kept
-kept (Event event context) s = event_kept event context s
-kept (Close id context) s = alone (Close id context) (without_lines id.0 s)
-kept (New attributes context) s = alone (New attributes context) s
-kept (Clone id) s = alone (Clone id) s
-kept (Record id record_of_it) s = alone (Record id record_of_it) s
+abbrev pub call_kept : Call → FailuresState → Kept
+call_kept (Event event context) s = event_kept event context s
+call_kept (Close id context) s = alone (Close id context) (without_lines id.0 s)
+call_kept (New attributes context) s = alone (New attributes context) s
+call_kept (Clone id) s = alone (Clone id) s
+call_kept (Record id record_of_it) s = alone (Record id record_of_it) s
 
 abbrev pub all_kept : List Call → FailuresState → Made FailuresState
 all_kept [] s = record { calls = []; mapping = s }
 all_kept (call ∷ others) s =
-    let first = kept call s in
+    let first = call_kept call s in
     let rest = all_kept others first.state in
     record { calls = first.calls ++ rest.calls; mapping = rest.mapping }
 

@@ -5,13 +5,13 @@ use Rattle.json.specs.Find.{get}
 use Rattle.tracing_tree_base.specs.declared.field.Field.{Field}
 use Rattle.tracing_tree_layer.specs.declared.call.Call.{Call}
 use Rattle.tracing_tree_layer.specs.declared.call.Call.TheVariants.{New, Clone, Record, Event, Close}
-use Rattle.ttree_source.specs.Fields.{text_of}
-use Rattle.ttree_source.specs.Calls.{shown}
+use Rattle.ttree_source.specs.Fields.{value_text}
+use Rattle.ttree_source.specs.Calls.{shown_text}
 use Rattle.ttree_adapters.specs.Mapping.{Made}
 use Rattle.ttree_adapters.specs.declared.line_fields.Member.{Member}
 
 abbrev pub field_if : List ℕ → Option Json → List Field
-field_if name (Some value) = (record { name = shown name; value = text_of value }) ∷ []
+field_if name (Some value) = (record { name = shown_text name; value = value_text value }) ∷ []
 field_if name None = []
 
 -- a member as a field, if the object has it

@@ -1,12 +1,16 @@
 -- Spans in one row each.
-use Rattle.std.specs.Prelude.{ℕ, ◌==◌, ◌||◌, Bool, false, if◌then◌else◌, List, flat_map, map, Option, codes}
+use Rattle.std.specs.Prelude.{ℕ, ◌≡◌, ◌⊎◌, ◌==◌, ◌||◌, Bool, false, if◌then◌else◌, List, flat_map, map, Option, Result, Err, codes}
 use Rattle.std.specs.Char.{encode_utf8}
 use Rattle.std.specs.List.{list_any}
 use Rattle.std.specs.Str.{chars}
 use Rattle.json.specs.Json.{Json}
+use Rattle.tracing_tree_base.specs.declared.context.Refusal.{Refusal}
+use Rattle.tracing_tree_base.specs.declared.context.Refusal.TheVariants.{Memory}
 use Rattle.tracing_tree_base.specs.declared.field.Field.{Field}
 use Rattle.tracing_tree_layer.specs.declared.call.Call.{Call}
 use Rattle.tracing_tree_layer.specs.declared.call.Call.TheVariants.{New, Clone, Record, Event, Close}
+use Rattle.tracing_tree_layer.specs.declared.call.Reply.{Reply}
+use Rattle.tracing_tree_spans.specs.declared.registry.Attributes.{Attributes}
 use Rattle.ttree_adapters.specs.Mapping.{Made}
 use Rattle.ttree_adapters.specs.declared.one_row.OneRow.{OneRow}
 
@@ -33,23 +37,26 @@ one_row_field field = record {
 }
 
 -- a span that would take several rows
+abbrev pub spans_lines : Attributes → Bool
+spans_lines attributes = has_line_end attributes.name || list_any is_lined attributes.fields
+
 abbrev pub has_lines : Call → Bool
-has_lines (New attributes context) =
-    has_line_end attributes.name || list_any is_lined attributes.fields
+has_lines (New attributes context) = spans_lines attributes
 has_lines (Record id record_of_it) = list_any is_lined record_of_it.fields
 has_lines (Event event context) = false
 has_lines (Clone id) = false
 has_lines (Close id context) = false
 
+-- a span that takes one row
+abbrev pub one_row_attributes : Attributes → Attributes
+one_row_attributes attributes = record attributes {
+  name = one_row_text attributes.name;
+  fields = map one_row_field attributes.fields;
+}
+
 -- a call whose span takes one row
 abbrev pub one_row_call : Call → Call
-one_row_call (New attributes context) =
-    New
-    (record attributes {
-      name = one_row_text attributes.name;
-      fields = map one_row_field attributes.fields;
-    })
-    context
+one_row_call (New attributes context) = New (one_row_attributes attributes) context
 one_row_call (Record id record_of_it) =
     Record id (record { fields = map one_row_field record_of_it.fields })
 one_row_call (Event event context) = Event event context
@@ -58,3 +65,9 @@ one_row_call (Close id context) = Close id context
 
 abbrev pub makes_one_row : OneRow → Option Json → List Call → Made OneRow
 makes_one_row s value calls = record { calls = map one_row_call calls; mapping = s }
+
+module _ {C : Type 0} (answers : Call → Result Reply Refusal → C → C → Type 0) where
+  -- the receiver answers the call whose span takes one row, or memory ran out before
+  abbrev pub one_row_answers : Call → Result Reply Refusal → C → C → Type 0
+  one_row_answers call answer old new =
+      answers (one_row_call call) answer old new ⊎ (answer ≡ Err Memory) × (new ≡ old)

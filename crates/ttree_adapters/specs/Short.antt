@@ -20,8 +20,8 @@ abbrev pub is_over : List ℕ → Bool
 is_over value = is_wider 200 start (chars value)
 
 -- a field that is cut: an array or an object of more than 200 columns, and no message
-abbrev pub is_long : Field → Bool
-is_long field =
+abbrev pub is_cut_field : Field → Bool
+is_cut_field field =
     is_structure field.value && not (bytes_eq field.name (codes "message")) && is_over field.value
 
 -- `…` in UTF-8
@@ -34,17 +34,17 @@ short_text value = encode_utf8_all (fitting 200 start (chars value)) ++ ellipsis
 
 abbrev pub short_field : Field → Field
 short_field field =
-    if is_long field then record field { value = short_text field.value } else field
+    if is_cut_field field then record field { value = short_text field.value } else field
 
-abbrev pub fields_of : Call → List Field
-fields_of (New attributes context) = attributes.fields
-fields_of (Event event context) = event.fields
-fields_of (Record id record_of_it) = record_of_it.fields
-fields_of (Clone id) = []
-fields_of (Close id context) = []
+abbrev pub call_fields : Call → List Field
+call_fields (New attributes context) = attributes.fields
+call_fields (Event event context) = event.fields
+call_fields (Record id record_of_it) = record_of_it.fields
+call_fields (Clone id) = []
+call_fields (Close id context) = []
 
 abbrev pub has_long : Call → Bool
-has_long call = list_any is_long (fields_of call)
+has_long call = list_any is_cut_field (call_fields call)
 
 -- a call whose long fields are cut
 abbrev pub short_call : Call → Call

@@ -11,8 +11,8 @@ use Rattle.ttree_adapters.specs.Mapping.{Made}
 use Rattle.ttree_adapters.specs.declared.threads.ThreadColumns.{ThreadColumns}
 
 -- the first characters of a name, as many as take fewer than 16 columns
-abbrev pub kept : List ℕ → List ℕ
-kept name = fitting 16 start (chars name)
+abbrev pub short_name : List ℕ → List ℕ
+short_name name = fitting 16 start (chars name)
 
 -- these characters, filled up with spaces to 16 columns
 abbrev pub filled : List ℕ → List ℕ
@@ -20,7 +20,7 @@ filled kept = encode_utf8_all kept ++ replicate (16 - column_after start kept) 3
 
 -- a name in 16 columns; the last is a space
 abbrev pub column : List ℕ → List ℕ
-column name = filled (kept name)
+column name = filled (short_name name)
 
 -- a call without a thread has an empty column
 abbrev pub in_column : Context → Context

@@ -103,13 +103,14 @@ is_known Trace moment = true
 abbrev pub shown_at : Moment → Civil
 shown_at moment = civil_at moment.wall.nanosecond
 
-abbrev pub time_of : Precision → Civil → List ℕ
-time_of precision civil =
+abbrev pub civil_time_text : Precision → Civil → List ℕ
+civil_time_text precision civil =
     clock_text precision civil.hour civil.minute civil.second civil.nanosecond
 
 abbrev pub utc_column : Moment → TimesState → List ℕ
 utc_column moment s =
-    date_column (date_of (shown_at moment)) s.date ++ time_of s.style.precision (shown_at moment)
+    date_column (date_of (shown_at moment)) s.date
+    ++ civil_time_text s.style.precision (shown_at moment)
 
 abbrev pub column_on : RowClock → Moment → TimesState → List ℕ
 column_on Trace moment s = uptime_column s.style.precision moment.mono
@@ -181,8 +182,8 @@ in_span_column elapsed context s =
     let placed = in_column elapsed context s in
     record placed { state = date_kept s.style.is_deferred s.date placed.state }
 
-abbrev pub opened : Context → TimesState → InColumn
-opened context s =
+abbrev pub opening_in_column : Context → TimesState → InColumn
+opening_in_column context s =
     let begun = started s.next context.moment s in
     in_span_column None context (record begun { next = one_more s.next })
 
@@ -202,8 +203,8 @@ happened context s =
 abbrev pub without_start : ℕ → TimesState → TimesState
 without_start span s = record s { starts = remove_entry (is_at (nat_cmp span)) s.starts }
 
-abbrev pub closed : Id → Context → TimesState → InColumn
-closed id context s =
+abbrev pub closing_in_column : Id → Context → TimesState → InColumn
+closing_in_column id context s =
     in_span_column (since id.0 context.moment s) context
     (without_start id.0 (started id.0 context.moment s))
 
@@ -213,23 +214,23 @@ pub record Timed : Type 0 where
   pub state : TimesState
 
 -- the columns of a call: when it happened, and how long after the first known time of its span
-abbrev pub timed : Call → TimesState → Timed
-timed (New attributes context) s =
-    let placed = opened context s in
+abbrev pub call_timed : Call → TimesState → Timed
+call_timed (New attributes context) s =
+    let placed = opening_in_column context s in
     record { call = New attributes placed.context; state = placed.state }
-timed (Event event context) s =
+call_timed (Event event context) s =
     let placed = happened context s in
     record { call = Event event placed.context; state = placed.state }
-timed (Close id context) s =
-    let placed = closed id context s in
+call_timed (Close id context) s =
+    let placed = closing_in_column id context s in
     record { call = Close id placed.context; state = placed.state }
-timed (Clone id) s = record { call = Clone id; state = s }
-timed (Record id record_of_it) s = record { call = Record id record_of_it; state = s }
+call_timed (Clone id) s = record { call = Clone id; state = s }
+call_timed (Record id record_of_it) s = record { call = Record id record_of_it; state = s }
 
 abbrev pub all_timed : List Call → TimesState → Made TimesState
 all_timed [] s = record { calls = []; mapping = s }
 all_timed (call ∷ others) s =
-    let first = timed call s in
+    let first = call_timed call s in
     let rest = all_timed others first.state in
     record { calls = first.call ∷ rest.calls; mapping = rest.mapping }
 

@@ -2,7 +2,7 @@
 
 ghost use Rattle.std.specs.Prelude.{◌≡◌, filter};
 ghost use Rattle.std.specs.List.{list_any};
-ghost use Rattle.ttree_adapters.specs.Counts.{has_message, is_counted, is_message};
+ghost use Rattle.ttree_adapters.specs.Counts.{has_message, is_counted, is_message_field};
 
 use crate::mapping::Mapping;
 use json::Value;
@@ -66,7 +66,7 @@ fn has_message(call: &Call) -> bool
 }
 
 fn is_any_message(fields: &[Field]) -> bool
-    ensures { result ≡ list_any is_message fields.now }
+    ensures { result ≡ list_any is_message_field fields.now }
 {
     let mut rest = fields;
     while let [field, others @ ..] = rest {
@@ -79,7 +79,7 @@ fn is_any_message(fields: &[Field]) -> bool
 }
 
 fn is_message(field: &Field) -> bool
-    ensures { result ≡ is_message field.now }
+    ensures { result ≡ is_message_field field.now }
 {
     field.name.as_str() == "message"
 }

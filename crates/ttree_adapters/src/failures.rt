@@ -1,7 +1,7 @@
 //! Events from a level on, and the lines of what failed.
 
 ghost use Rattle.std.specs.Prelude.{◌≡◌, ◌++◌, IfOk, OnOk};
-ghost use Rattle.ttree_adapters.specs.Failures.{KeepsShown, all_kept, event_kept, is_end, is_failure, kept, lines_in, lines_of, no_lines, with_line_in, without_lines, without_lines_in};
+ghost use Rattle.ttree_adapters.specs.Failures.{KeepsShown, all_kept, call_kept, event_kept, is_end, is_failure_level, lines_in, lines_of, no_lines, with_line_in, without_lines, without_lines_in};
 
 use crate::mapping::Mapping;
 use json::Value;
@@ -100,8 +100,8 @@ impl FailureLines {
     // Appends what a call becomes.
     fn keep(&mut self, made: &mut Vec<Call>, call: Call) -> Result<(), AllocError>
         ensures calls { OnOk result (made.new.items
-            ≡ made.old.items ++ (kept call self.old).calls) }
-        ensures state { OnOk result (self.new ≡ (kept call self.old).state) }
+            ≡ made.old.items ++ (call_kept call self.old).calls) }
+        ensures state { OnOk result (self.new ≡ (call_kept call self.old).state) }
     {
         match call {
             Call::Event(event, context) => self.keep_event(made, event, context),
@@ -180,7 +180,7 @@ impl FailureLines {
 }
 
 fn is_failure(level: Level) -> bool
-    ensures { result ≡ is_failure level }
+    ensures { result ≡ is_failure_level level }
 {
     match level {
         Level::Error => true,

@@ -3,14 +3,18 @@
 ghost use Rattle.std.specs.Prelude.{◌≡◌, ◌++◌, IfOk, OnOk, flat_map, map, string_bytes};
 ghost use Rattle.std.specs.List.{list_any};
 ghost use Rattle.std.specs.Str.{chars};
-ghost use Rattle.ttree_adapters.specs.OneRow.{has_line_end, has_lines, is_lined, one_row_call, one_row_char, one_row_field, one_row_text};
+ghost use Rattle.ttree_adapters.specs.OneRow.{has_line_end, has_lines, is_lined, one_row_attributes, one_row_call, one_row_char, one_row_field, one_row_text, spans_lines};
 
 use crate::mapping::Mapping;
 use json::Value;
 use std::alloc::{AllocError, Global};
+use std::marker::Model;
 use tracing_tree_base::field::{Field, Fields};
 use tracing_tree_base::text::Text;
-use tracing_tree_layer::call::Call;
+use tracing_tree_base::{Context, Id, Refusal};
+use tracing_tree_layer::call::{Call, Reply};
+use tracing_tree_layer::calls::Calls;
+use tracing_tree_layer::parts::EventParts;
 use tracing_tree_spans::registry::{Attributes, Record};
 
 /// Shows a line end in the name or a field of a span as `\n`, so that one span is one row. An
@@ -42,6 +46,89 @@ impl Mapping for OneRow {
     }
 }
 
+/// A receiver whose spans take one row each, as the calls of [`OneRow`] do.
+#[derive(Drop)]
+pub struct OneRowCalls<C> {
+    alloc: Global,
+    receiver: C,
+}
+
+impl<C> Model for OneRowCalls<C> {
+    ghost Value = { C };
+
+    ghost view = { λ r. r.receiver };
+}
+
+impl<C> OneRowCalls<C> {
+    /// Returns a receiver that passes its calls on to this one.
+    pub fn new(alloc: Global, receiver: C) -> OneRowCalls<C>
+        ensures { result ≡ receiver }
+    {
+        OneRowCalls { alloc, receiver }
+    }
+
+    /// Returns the receiver.
+    pub fn into_receiver(self) -> C
+        ensures { result ≡ self }
+    {
+        self.receiver
+    }
+}
+
+/// The receiver answers the call whose span takes one row. A call is also refused if an allocation
+/// fails before that, and nothing has changed then.
+impl<C: Calls> Calls for OneRowCalls<C> {
+    ghost use Rattle.ttree_adapters.specs.OneRow.{one_row_answers};
+
+    ghost answers = { one_row_answers C.answers };
+
+    ghost flushes = { C.flushes };
+
+    fn call(&mut self, call: Call) -> Result<Reply, Refusal> {
+        let call = if has_lines(&call) {
+            one_row_call(self.alloc, call)?
+        } else {
+            call
+        };
+        self.receiver.call(call)
+    }
+
+    fn new_span(&mut self, attributes: Attributes, context: &Context) -> Result<Id, Refusal> {
+        let attributes = if spans_lines(&attributes) {
+            one_row_attributes(self.alloc, attributes)?
+        } else {
+            attributes
+        };
+        self.receiver.new_span(attributes, context)
+    }
+
+    fn clone_span(&mut self, id: Id) -> Result<Id, Refusal> {
+        self.receiver.clone_span(id)
+    }
+
+    fn record(&mut self, id: Id, values: Record) -> Result<(), Refusal> {
+        let values = if is_lined_one(values.fields.as_slice()) {
+            let fields = one_row_fields(self.alloc, &values.fields)?;
+            Record { fields }
+        } else {
+            values
+        };
+        self.receiver.record(id, values)
+    }
+
+    fn event<E: EventParts>(&mut self, event: &E, context: &Context) -> Result<(), Refusal> {
+        self.receiver.event(event, context)
+    }
+
+    fn close(&mut self, id: Id, context: &Context) -> Result<bool, Refusal> {
+        self.receiver.close(id, context)
+    }
+
+    fn flush(&mut self) {
+        self.receiver.flush();
+    }
+}
+
 fn all_in_one_row(alloc: Global, calls: Vec<Call>) -> Result<Vec<Call>, AllocError>
     ensures { IfOk result (λ made. made.items ≡ map one_row_call calls.items) }
 {
@@ -70,12 +157,17 @@ fn has_lines(call: &Call) -> bool
     ensures { result ≡ has_lines call.now }
 {
     match call {
-        Call::New(attributes, _) => {
-            has_line_end(attributes.name.as_str()) || is_lined_one(attributes.fields.as_slice())
-        }
+        Call::New(attributes, _) => spans_lines(attributes),
         Call::Record(_, record) => is_lined_one(record.fields.as_slice()),
         Call::Event(_, _) | Call::Clone(_) | Call::Close(_, _) => false,
     }
+}
+
+// Returns whether a span with these attributes would take several rows.
+fn spans_lines(attributes: &Attributes) -> bool
+    ensures { result ≡ spans_lines attributes.now }
+{
+    has_line_end(attributes.name.as_str()) || is_lined_one(attributes.fields.as_slice())
 }
 
 fn is_lined_one(fields: &[Field]) -> bool
@@ -115,16 +207,7 @@ fn one_row_call(alloc: Global, call: Call) -> Result<Call, AllocError>
 {
     match call {
         Call::New(attributes, context) => {
-            let name = one_row_text(alloc, attributes.name.as_str())?;
-            let fields = one_row_fields(alloc, &attributes.fields)?;
-            Ok(Call::New(
-                Attributes {
-                    name,
-                    fields,
-                    ..attributes
-                },
-                context,
-            ))
+            Ok(Call::New(one_row_attributes(alloc, attributes)?, context))
         }
         Call::Record(id, record) => {
             let fields = one_row_fields(alloc, &record.fields)?;
@@ -132,6 +215,18 @@ fn one_row_call(alloc: Global, call: Call) -> Result<Call, AllocError>
         }
         other => Ok(other),
     }
+}
+
+fn one_row_attributes(alloc: Global, attributes: Attributes) -> Result<Attributes, AllocError>
+    ensures { IfOk result (λ made. made ≡ one_row_attributes attributes) }
+{
+    let name = one_row_text(alloc, attributes.name.as_str())?;
+    let fields = one_row_fields(alloc, &attributes.fields)?;
+    Ok(Attributes {
+        name,
+        fields,
+        ..attributes
+    })
 }
 
 fn one_row_fields(alloc: Global, fields: &Fields) -> Result<Fields, AllocError>

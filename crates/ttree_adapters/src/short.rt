@@ -2,7 +2,7 @@
 
 ghost use Rattle.std.specs.Prelude.{◌≡◌, IfOk, bytes_eq, codes, map};
 ghost use Rattle.std.specs.List.{list_any};
-ghost use Rattle.ttree_adapters.specs.Short.{fields_of, has_long, is_long, is_over, is_structure, short_call, short_field, short_text};
+ghost use Rattle.ttree_adapters.specs.Short.{call_fields, has_long, is_cut_field, is_over, is_structure, short_call, short_field, short_text};
 
 use crate::mapping::Mapping;
 use json::Value;
@@ -70,7 +70,7 @@ fn has_long(calls: &[Call]) -> bool
 }
 
 fn has_long_field(fields: &[Field]) -> bool
-    ensures { result ≡ list_any is_long fields.now }
+    ensures { result ≡ list_any is_cut_field fields.now }
 {
     let mut rest = fields;
     while let [field, others @ ..] = rest {
@@ -84,7 +84,7 @@ fn has_long_field(fields: &[Field]) -> bool
 
 // Returns the fields of a call.
 fn fields_of(call: &Call) -> &[Field]
-    ensures { result.now ≡ fields_of call.now }
+    ensures { result.now ≡ call_fields call.now }
 {
     match call {
         Call::New(attributes, _) => attributes.fields.as_slice(),
@@ -96,7 +96,7 @@ fn fields_of(call: &Call) -> &[Field]
 
 // Returns whether a field is cut: an array or an object of more than 200 columns.
 fn is_long(field: &Field) -> bool
-    ensures { result ≡ is_long field.now }
+    ensures { result ≡ is_cut_field field.now }
 {
     let value = field.value.as_str();
     is_structure(value) && !is_message(field.name.as_str()) && is_over(value)

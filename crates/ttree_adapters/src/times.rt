@@ -2,7 +2,7 @@
 
 ghost use Rattle.std.specs.Prelude.{◌≡◌, ◌++◌, [], IfOk, OnOk, option_map, string_bytes};
 ghost use Rattle.ttree_adapters.specs.Column.{pair};
-ghost use Rattle.ttree_adapters.specs.Times.{all_timed, clock_text, closed, date_column, date_of, date_text, digit_count, elapsed_column, fraction, happened, in_column, in_span_column, is_known, minutes_text, moment_column, no_times, opened, seconds_text, shown_at, since, started, time_of, timed, uptime_column, utc_column, with_date};
+ghost use Rattle.ttree_adapters.specs.Times.{all_timed, call_timed, civil_time_text, clock_text, closing_in_column, date_column, date_of, date_text, digit_count, elapsed_column, fraction, happened, in_column, in_span_column, is_known, minutes_text, moment_column, no_times, opening_in_column, seconds_text, shown_at, since, started, uptime_column, utc_column, with_date};
 
 use crate::column::{columns_left, push_pair, push_spaces, push_three};
 use crate::mapping::Mapping;
@@ -135,7 +135,7 @@ impl TimeColumns {
 
     // Returns a call with columns for its time.
     fn timed(&mut self, call: Call) -> Result<Call, AllocError>
-        ensures { IfOk result (λ made. timed call self.old ≡ record {
+        ensures { IfOk result (λ made. call_timed call self.old ≡ record {
           call = made;
           state = self.new;
         }) }
@@ -149,7 +149,7 @@ impl TimeColumns {
     }
 
     fn opened(&mut self, context: Context) -> Result<Context, AllocError>
-        ensures { IfOk result (λ made. opened context self.old ≡ record {
+        ensures { IfOk result (λ made. opening_in_column context self.old ≡ record {
           context = made;
           state =
               self.new;
@@ -177,7 +177,7 @@ impl TimeColumns {
     }
 
     fn closed(&mut self, id: Id, context: Context) -> Result<Context, AllocError>
-        ensures { IfOk result (λ made. closed id context self.old ≡ record {
+        ensures { IfOk result (λ made. closing_in_column id context self.old ≡ record {
           context = made;
           state
               = self.new;
@@ -294,7 +294,7 @@ fn date_at(alloc: Global, moment: &Moment) -> Result<Text, AllocError>
 // Appends the time of day of a moment.
 fn push_time(out: &mut String, precision: Precision, moment: &Moment) -> Result<(), AllocError>
     ensures { OnOk result (string_bytes out.new
-        ≡ string_bytes out.old ++ time_of precision (shown_at moment.now)) }
+        ≡ string_bytes out.old ++ civil_time_text precision (shown_at moment.now)) }
 {
     let shown = Offset::UTC.to_datetime(moment.wall);
     push_clock(out, precision, shown.time())

@@ -5,7 +5,7 @@ use Rattle.std.proofs.Math.Seq.{get_or-append_seam}
 use Rattle.std.proofs.lemmas.List.{length-append}
 use Rattle.std.proofs.lemmas.Bool.Decides.{nat_tests}
 use Rattle.std.proofs.lemmas.Str.{IsCharBoundary-start, IsCharBoundary-after_ascii}
-use Rattle.ttree_chrome.specs.Text.{ScanState, byte_read, closed, level_of, noted, nothing_read, opened, read_in_text, read_outside, scan_from, scan_of}
+use Rattle.ttree_chrome.specs.Text.{ScanState, bracket_closed, bracket_opened, byte_read, element_depth, nothing_read, place_noted, read_in_text, read_outside, scan_from, scan_of}
 use Rattle.ttree_chrome.specs.declared.text.Bracket.TheVariants.{Square, Curly}
 
 module _ (P : ℕ → Type 0) where
@@ -13,7 +13,7 @@ module _ (P : ℕ → Type 0) where
   place_if true x y h k = h refl
   place_if false x y h k = k
 
-  noted_place : (level at : ℕ) (s : ScanState) → P s.place → P at → P (noted level at s).place
+  noted_place : (level at : ℕ) (s : ScanState) → P s.place → P at → P (place_noted level at s).place
   noted_place level at s h k =
       place_if (length s.brackets == level) (record s { place = at; left_open = s.brackets }) s (λ _. k) h
 
@@ -24,9 +24,9 @@ module _ (P : ℕ → Type 0) where
   outside_place : (level at byte : ℕ) (s : ScanState) → P s.place → (byte < 128 → P at) → P (read_outside level at byte s).place
   outside_place level at byte s h k =
       place_if (byte == 34) _ _ (λ _. h)
-      (place_if (byte == 91) _ _ (λ e. noted_place level at (opened Square s) h (k (grind (arith, nat_tests))))
-      (place_if (byte == 123) _ _ (λ e. noted_place level at (opened Curly s) h (k (grind (arith, nat_tests))))
-      (place_if ((byte == 93) || (byte == 125)) _ _ (λ e. noted_place level at (closed s) h (k (grind (arith, nat_tests)))) h)))
+      (place_if (byte == 91) _ _ (λ e. noted_place level at (bracket_opened Square s) h (k (grind (arith, nat_tests))))
+      (place_if (byte == 123) _ _ (λ e. noted_place level at (bracket_opened Curly s) h (k (grind (arith, nat_tests))))
+      (place_if ((byte == 93) || (byte == 125)) _ _ (λ e. noted_place level at (bracket_closed s) h (k (grind (arith, nat_tests)))) h)))
 
   -- one more byte leaves the place, or moves it after a byte of ASCII
   read_place : (level at byte : ℕ) (s : ScanState) → P s.place → (byte < 128 → P at) → P (byte_read level at byte s).place
@@ -49,4 +49,4 @@ scan_place bs u level at front (byte ∷ others) s e n h =
 
 -- a string may be cut at the place that a scan of it finds
 pub place_is_boundary : (bs : List ℕ) → IsUtf8 bs → IsCharBoundary bs (scan_of bs).place
-place_is_boundary bs u = scan_place bs u (level_of bs) 0 [] bs nothing_read refl refl (IsCharBoundary-start bs u)
+place_is_boundary bs u = scan_place bs u (element_depth bs) 0 [] bs nothing_read refl refl (IsCharBoundary-start bs u)

@@ -5,7 +5,7 @@ use Rattle.std.specs.Str.{chars}
 use lib.Utf8.{encode}
 use Rattle.json.specs.Json.{null, number, string, array, object, member, no_members, no_items}
 use Rattle.ttree_chrome.specs.Element.{element_of}
-use Rattle.ttree_chrome.specs.Number.{length_of, nanoseconds_of, time_of}
+use Rattle.ttree_chrome.specs.Number.{length_of, microseconds_time, small_nanoseconds}
 use Rattle.ttree_chrome.specs.Text.{is_cut, mended}
 use Rattle.ttree_source.specs.declared.notes.Problem.TheVariants.{Phase, Process, Thread, Start, Duration}
 use Rattle.ttree_chrome.specs.declared.element.Element.TheVariants.{Span, Begin, End, Instant, Async, ProcessName, ThreadName, Metadata, Undrawn}
@@ -14,43 +14,44 @@ use Rattle.ttree_chrome.specs.declared.element.Track.TheVariants.{Begin as Track
 
 -- ---- numbers
 
-pub whole_microseconds : nanoseconds_of (codes "57411") ≡ Some 57411000
+pub whole_microseconds : small_nanoseconds (codes "57411") ≡ Some 57411000
 whole_microseconds = refl
 
-pub with_thousandths : nanoseconds_of (codes "1350024132.832") ≡ Some 1350024132832
+pub with_thousandths : small_nanoseconds (codes "1350024132.832") ≡ Some 1350024132832
 with_thousandths = refl
 
-pub half_a_microsecond : nanoseconds_of (codes "0.5") ≡ Some 500
+pub half_a_microsecond : small_nanoseconds (codes "0.5") ≡ Some 500
 half_a_microsecond = refl
 
-pub more_is_cut : nanoseconds_of (codes "1.2345678901234567890123456789") ≡ Some 1234
+pub more_is_cut : small_nanoseconds (codes "1.2345678901234567890123456789") ≡ Some 1234
 more_is_cut = refl
 
-pub a_small_exponent : nanoseconds_of (codes "6.25e-02") ≡ Some 62
+pub a_small_exponent : small_nanoseconds (codes "6.25e-02") ≡ Some 62
 a_small_exponent = refl
 
-pub below_a_nanosecond : nanoseconds_of (codes "5e-05") ≡ Some 0
+pub below_a_nanosecond : small_nanoseconds (codes "5e-05") ≡ Some 0
 below_a_nanosecond = refl
 
-pub a_large_exponent : nanoseconds_of (codes "1.5E+3") ≡ Some 1500000
+pub a_large_exponent : small_nanoseconds (codes "1.5E+3") ≡ Some 1500000
 a_large_exponent = refl
 
-pub zeros_before_many_digits : nanoseconds_of (codes "0.000000000000000000000015e24") ≡ Some 15000
+pub zeros_before_many_digits : small_nanoseconds
+    (codes "0.000000000000000000000015e24") ≡ Some 15000
 zeros_before_many_digits = refl
 
-pub an_exponent_is_whole : nanoseconds_of (codes "1e1.5") ≡ None
+pub an_exponent_is_whole : small_nanoseconds (codes "1e1.5") ≡ None
 an_exponent_is_whole = refl
 
-pub the_last_nanosecond : nanoseconds_of (codes "9223372036854775.807") ≡ Some (2 ^ 63 - 1)
+pub the_last_nanosecond : small_nanoseconds (codes "9223372036854775.807") ≡ Some (2 ^ 63 - 1)
 the_last_nanosecond = refl
 
-pub one_after_it : nanoseconds_of (codes "9223372036854775.808") ≡ None
+pub one_after_it : small_nanoseconds (codes "9223372036854775.808") ≡ None
 one_after_it = refl
 
-pub after_the_zero : time_of (codes "1.5") ≡ Some (2 ^ 63 + 1500)
+pub after_the_zero : microseconds_time (codes "1.5") ≡ Some (2 ^ 63 + 1500)
 after_the_zero = refl
 
-pub before_the_zero : time_of (codes "-12.25") ≡ Some (2 ^ 63 - 12250)
+pub before_the_zero : microseconds_time (codes "-12.25") ≡ Some (2 ^ 63 - 12250)
 before_the_zero = refl
 
 pub a_length_is_not_negative : length_of (codes "-12.25") ≡ Some 0

@@ -4,9 +4,9 @@ use Rattle.json.specs.Json.{Json, null, boolean, number, string, array, object}
 use Rattle.json.specs.Find.{get, as_number}
 use Rattle.tracing_tree_base.specs.declared.field.Field.{Field}
 use Rattle.ttree_source.specs.Values.{text_at}
-use Rattle.ttree_source.specs.Fields.{event_fields}
-use Rattle.ttree_source.specs.Calls.{shown}
-use Rattle.ttree_chrome.specs.Number.{integer_of, length_of, time_of}
+use Rattle.ttree_source.specs.Fields.{object_fields}
+use Rattle.ttree_source.specs.Calls.{shown_text}
+use Rattle.ttree_chrome.specs.Number.{integer_of, length_of, microseconds_time}
 use Rattle.ttree_source.specs.declared.notes.Problem.{Problem}
 use Rattle.ttree_source.specs.declared.notes.Problem.TheVariants.{Phase as NoPhase, Process as NoProcess, Thread as NoThread, Start as NoStart, Duration as NoDuration}
 use Rattle.ttree_chrome.specs.declared.element.Ident.{Ident}
@@ -26,7 +26,7 @@ use Rattle.ttree_chrome.specs.declared.element.Naming.TheVariants.{Process as Of
 
 -- the time at a key
 abbrev pub time_at : List ℕ → Json → Option ℕ
-time_at key value = option_and_then time_of (option_and_then as_number (get key value))
+time_at key value = option_and_then microseconds_time (option_and_then as_number (get key value))
 
 -- the length at a key, in nanoseconds
 abbrev pub length_at : List ℕ → Json → Option ℕ
@@ -64,15 +64,15 @@ owner_in value =
     owner_of (ident_at (codes "pid") NoProcess value) (ident_at (codes "tid") NoThread value)
 
 -- the name of an element, or an empty string
-abbrev pub name_in : Json → List ℕ
-name_in value = unwrap_or (text_at (codes "name") value) []
+abbrev pub element_name : Json → List ℕ
+element_name value = unwrap_or (text_at (codes "name") value) []
 
 -- the members of the object at `args` as fields
 abbrev pub fields_in : Json → List Field
 fields_in value = at_args (get (codes "args") value) where
   at_args : Option Json → List Field
   at_args None = []
-  at_args (Some args) = event_fields args
+  at_args (Some args) = object_fields args
 
 -- ---- elements
 
@@ -82,7 +82,7 @@ entry_of (Ok owner) None value = Err NoStart
 entry_of (Ok owner) (Some start) value = Ok (record {
   owner = owner;
   start = start;
-  name = name_in value;
+  name = element_name value;
   fields = fields_in value;
 })
 
@@ -100,12 +100,12 @@ phase_of text =
     else None
 
 -- a span by how long it takes
-abbrev pub span_of : Entry → Option ℕ → Result Element Problem
-span_of entry None = Err NoDuration
-span_of entry (Some length) = Ok (Span entry (min (entry.start + length) (2 ^ 64 - 1)))
+abbrev pub span_element : Entry → Option ℕ → Result Element Problem
+span_element entry None = Err NoDuration
+span_element entry (Some length) = Ok (Span entry (min (entry.start + length) (2 ^ 64 - 1)))
 
 abbrev pub phased : Phase → Entry → Json → Result Element Problem
-phased Complete entry value = span_of entry (length_at (codes "dur") value)
+phased Complete entry value = span_element entry (length_at (codes "dur") value)
 phased Begins entry value = Ok (Begin entry)
 phased Ends entry value = Ok (End entry)
 phased Happens entry value = Ok (Instant entry)
@@ -130,39 +130,40 @@ async_of text =
     else None
 
 -- a string or a number as written, empty for any other value
-abbrev pub text_of : Option Json → List ℕ
-text_of None = []
-text_of (Some null) = []
-text_of (Some (boolean _)) = []
-text_of (Some (number text)) = text
-text_of (Some (string text)) = text
-text_of (Some (array _)) = []
-text_of (Some (object _)) = []
+abbrev pub written_text : Option Json → List ℕ
+written_text None = []
+written_text (Some null) = []
+written_text (Some (boolean _)) = []
+written_text (Some (number text)) = text
+written_text (Some (string text)) = text
+written_text (Some (array _)) = []
+written_text (Some (object _)) = []
 
 abbrev pub local_or : Option Json → Option Json → List ℕ
-local_or (Some local) other = text_of (Some local)
-local_or None other = text_of other
+local_or (Some local) other = written_text (Some local)
+local_or None other = written_text other
 
 abbrev pub id_or : Option Json → Option Json → List ℕ
 id_or (Some id) other = local_or (get (codes "local") id) (get (codes "global") id)
-id_or None other = text_of other
+id_or None other = written_text other
 
 -- the id of an element's asynchronous track, empty if it has no such id
-abbrev pub id_in : Json → List ℕ
-id_in value = id_or (get (codes "id2") value) (get (codes "id") value)
+abbrev pub track_id : Json → List ℕ
+track_id value = id_or (get (codes "id2") value) (get (codes "id") value)
 
 -- the key of an element's asynchronous track: its category, its scope and its id
 abbrev pub track_in : Json → List ℕ
 track_in value =
-    ((((text_of (get (codes "cat") value)) ++ 0 ∷ []) ++ text_of (get (codes "scope") value))
-    ++ 0 ∷ []) ++ id_in value
+    ((((written_text (get (codes "cat") value)) ++ 0 ∷ [])
+    ++ written_text (get (codes "scope") value))
+    ++ 0 ∷ []) ++ track_id value
 
 abbrev pub id_field : List ℕ → Field
-id_field id = record { name = codes "id"; value = shown id }
+id_field id = record { name = codes "id"; value = shown_text id }
 
 -- the span of an asynchronous track shows the track's id
 abbrev pub with_id : Track → Entry → Json → Entry
-with_id TrackBegins entry value = record entry { fields = id_field (id_in value) ∷ entry.fields }
+with_id TrackBegins entry value = record entry { fields = id_field (track_id value) ∷ entry.fields }
 with_id TrackEnds entry value = entry
 with_id TrackHappens entry value = entry
 
@@ -202,7 +203,7 @@ given_name value = option_and_then (text_at (codes "name")) (get (codes "args") 
 
 -- an element of metadata: it may name its process or its thread
 abbrev pub named_in : Json → Result Element Problem
-named_in value = named_of (naming_of (name_in value)) (given_name value) (owner_in value)
+named_in value = named_of (naming_of (element_name value)) (given_name value) (owner_in value)
 
 abbrev pub async_if : Option Track → Json → Result Element Problem
 async_if None value = Ok Undrawn

@@ -116,8 +116,8 @@ ended_at (Some at) last index s = ended_one (slice_get s.begun at) at last index
 ended_at None last index s = undrawn_one s
 
 -- the span of the lane that began last ends
-abbrev pub ended : Placed → ℕ → GatheredState → GatheredState
-ended last index s = ended_at (last_in s.begun last.lane) last index s
+abbrev pub lane_span_ended : Placed → ℕ → GatheredState → GatheredState
+lane_span_ended last index s = ended_at (last_in s.begun last.lane) last index s
 
 -- an event happens
 abbrev pub happened : Placed → ℕ → GatheredState → GatheredState
@@ -132,8 +132,8 @@ lane_of owner strings = record {
   track = None;
 }
 
-abbrev pub placed : Entry → StringsState → Placed
-placed entry strings = record {
+abbrev pub entry_placed : Entry → StringsState → Placed
+entry_placed entry strings = record {
   lane = lane_of entry.owner strings;
   start = entry.start;
   name = entry.name;
@@ -145,15 +145,15 @@ abbrev pub owned : Owner → GatheredState → GatheredState
 owned owner s =
     record s { strings = ident_taken owner.thread (ident_taken owner.process s.strings) }
 
-abbrev pub named : Lane → List ℕ → Name
-named lane text = record { lane = lane; text = text }
+abbrev pub name_in_lane : Lane → List ℕ → Name
+name_in_lane lane text = record { lane = lane; text = text }
 
 abbrev pub process_named : Lane → List ℕ → GatheredState → GatheredState
 process_named lane text s =
-    record s { processes = s.processes ++ named (process_of lane) text ∷ [] }
+    record s { processes = s.processes ++ name_in_lane (process_of lane) text ∷ [] }
 
 abbrev pub thread_named : Lane → List ℕ → GatheredState → GatheredState
-thread_named lane text s = record s { threads = s.threads ++ named lane text ∷ [] }
+thread_named lane text s = record s { threads = s.threads ++ name_in_lane lane text ∷ [] }
 
 -- ---- asynchronous tracks
 
@@ -165,7 +165,7 @@ on_track number one = record one {
 
 abbrev pub tracked_as : Track → Placed → ℕ → GatheredState → GatheredState
 tracked_as TrackBegins one index s = began one index s
-tracked_as TrackEnds one index s = ended one index s
+tracked_as TrackEnds one index s = lane_span_ended one index s
 tracked_as TrackHappens one index s = happened one index s
 
 -- what an element of the asynchronous track with this key says
@@ -178,12 +178,14 @@ tracked track one key index s =
 
 abbrev pub gathered_as : Element → ℕ → GatheredState → GatheredState
 gathered_as (Span entry end) index s =
-    drawn (item_of (placed entry s.strings) end Whole index) (owned entry.owner s)
-gathered_as (Begin entry) index s = began (placed entry s.strings) index (owned entry.owner s)
-gathered_as (End entry) index s = ended (placed entry s.strings) index (owned entry.owner s)
-gathered_as (Instant entry) index s = happened (placed entry s.strings) index (owned entry.owner s)
+    drawn (item_of (entry_placed entry s.strings) end Whole index) (owned entry.owner s)
+gathered_as (Begin entry) index s = began (entry_placed entry s.strings) index (owned entry.owner s)
+gathered_as (End entry) index s =
+    lane_span_ended (entry_placed entry s.strings) index (owned entry.owner s)
+gathered_as (Instant entry) index s =
+    happened (entry_placed entry s.strings) index (owned entry.owner s)
 gathered_as (Async track entry key) index s =
-    tracked track (placed entry s.strings) key index (owned entry.owner s)
+    tracked track (entry_placed entry s.strings) key index (owned entry.owner s)
 gathered_as (ProcessName owner text) index s =
     process_named (lane_of owner s.strings) text (owned owner s)
 gathered_as (ThreadName owner text) index s =

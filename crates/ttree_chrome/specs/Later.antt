@@ -14,20 +14,21 @@ is_long_as Whole item min_duration = nat_le min_duration (item.end.time - item.s
 is_long_as Unended item min_duration = true
 
 -- an item is drawn, if shorter spans are left out
-abbrev pub is_long : Item → ℕ → Bool
-is_long item min_duration = is_long_as item.shape item min_duration
+abbrev pub is_long_item : Item → ℕ → Bool
+is_long_item item min_duration = is_long_as item.shape item min_duration
 
-abbrev pub noted : Later → Item → Item
-noted later item = record item { later = later }
+abbrev pub with_later : Later → Item → Item
+with_later later item = record item { later = later }
 
 -- what comes after an item, by the next one: that is drawn, or one after it
 abbrev pub later_by : ℕ → Item → Option Item → Later
 later_by min_duration item None = none_later
 later_by min_duration item (Some next) = record {
-  in_thread = same_lane next.lane item.lane && (is_long next min_duration || next.later.in_thread);
+  in_thread =
+      same_lane next.lane item.lane && (is_long_item next min_duration || next.later.in_thread);
   in_process =
       same_label next.lane.process item.lane.process
-      && (is_long next min_duration || next.later.in_process);
+      && (is_long_item next min_duration || next.later.in_process);
 }
 
 abbrev pub first_of : List Item → Option Item
@@ -40,4 +41,4 @@ abbrev pub marked : ℕ → List Item → List Item
 marked min_duration [] = []
 marked min_duration (item ∷ others) =
     let rest : List Item = marked min_duration others in
-    noted (later_by min_duration item (first_of rest)) item ∷ rest
+    with_later (later_by min_duration item (first_of rest)) item ∷ rest

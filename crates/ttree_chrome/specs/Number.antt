@@ -59,23 +59,24 @@ abbrev pub if_fits : ℕ → Option ℕ
 if_fits number = if nat_lt number (2 ^ 64) then Some number else None
 
 -- the same of digits, if a u64 holds it
-abbrev pub decimal_of : ℤ → List ℕ → List ℕ → Option ℕ
-decimal_of places before after =
+abbrev pub scaled_decimal : ℤ → List ℕ → List ℕ → Option ℕ
+scaled_decimal places before after =
     if is_digits before && is_digits after then if_fits (moved places before after) else None
 
 -- a string has such a byte
 abbrev pub has : (ℕ → Bool) → List ℕ → Bool
 has is_mark text = nat_lt (position_or_len is_mark text) (length text)
 
-abbrev pub is_point : ℕ → Bool
-is_point byte = byte == 46
+abbrev pub is_decimal_point : ℕ → Bool
+is_decimal_point byte = byte == 46
 
 -- the nanoseconds of a number of microseconds times a power of ten
 abbrev pub scaled_of : List ℕ → ℤ → Option ℕ
 scaled_of text exponent =
-    if has is_point text
-    then decimal_of (exponent +ℤ pos 3) (before_first is_point text) (after_first is_point text)
-    else decimal_of (exponent +ℤ pos 3) text (codes "0")
+    if has is_decimal_point text
+    then scaled_decimal (exponent +ℤ pos 3) (before_first is_decimal_point text)
+    (after_first is_decimal_point text)
+    else scaled_decimal (exponent +ℤ pos 3) text (codes "0")
 
 abbrev pub scaled_by : List ℕ → Option ℤ → Option ℕ
 scaled_by text None = None
@@ -106,8 +107,8 @@ abbrev pub if_small : ℕ → Option ℕ
 if_small nanoseconds = if nat_lt nanoseconds zero_time then Some nanoseconds else None
 
 -- the same, if 63 bits hold it
-abbrev pub nanoseconds_of : List ℕ → Option ℕ
-nanoseconds_of text = option_and_then if_small (unsigned_of text)
+abbrev pub small_nanoseconds : List ℕ → Option ℕ
+small_nanoseconds text = option_and_then if_small (unsigned_of text)
 
 abbrev pub before_zero : ℕ → ℕ
 before_zero nanoseconds = zero_time - nanoseconds
@@ -116,19 +117,19 @@ abbrev pub after_zero : ℕ → ℕ
 after_zero nanoseconds = zero_time + nanoseconds
 
 abbrev pub time_as : Option (List ℕ) → List ℕ → Option ℕ
-time_as (Some size) text = option_map before_zero (nanoseconds_of size)
-time_as None text = option_map after_zero (nanoseconds_of text)
+time_as (Some size) text = option_map before_zero (small_nanoseconds size)
+time_as None text = option_map after_zero (small_nanoseconds text)
 
 -- the time of a number of microseconds
-abbrev pub time_of : List ℕ → Option ℕ
-time_of text = time_as (after_mark (codes "-") text) text
+abbrev pub microseconds_time : List ℕ → Option ℕ
+microseconds_time text = time_as (after_mark (codes "-") text) text
 
 abbrev pub none_of : ℕ → ℕ
 none_of nanoseconds = 0
 
 abbrev pub length_as : Option (List ℕ) → List ℕ → Option ℕ
-length_as (Some size) text = option_map none_of (nanoseconds_of size)
-length_as None text = nanoseconds_of text
+length_as (Some size) text = option_map none_of (small_nanoseconds size)
+length_as None text = small_nanoseconds text
 
 -- the length of a number of microseconds, in nanoseconds; a negative number has the length 0
 abbrev pub length_of : List ℕ → Option ℕ

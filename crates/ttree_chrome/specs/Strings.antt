@@ -6,7 +6,7 @@ use Rattle.std.specs.declared.cmp.Ordering.{Ordering}
 use Rattle.std.specs.declared.cmp.Ordering.TheVariants.{Less, Greater}
 use Rattle.tracing_tree_base.specs.Field.{rendered_field, whole_field}
 use Rattle.tracing_tree_base.specs.declared.field.Field.{Field}
-use Rattle.ttree_source.specs.Calls.{shown}
+use Rattle.ttree_source.specs.Calls.{shown_text}
 use Rattle.ttree_chrome.specs.Keys.{Keys, found_key, key_number, with_key}
 use Rattle.ttree_chrome.specs.declared.element.Ident.{Ident}
 use Rattle.ttree_chrome.specs.declared.element.Ident.TheVariants.{Number, Name}
@@ -66,4 +66,4 @@ label_cmp (ByName one) (ByName other) = nat_cmp one other
 abbrev pub label_field : List ℕ → Label → List (List ℕ) → Field
 label_field name (ByNumber number) texts = whole_field name number
 label_field name (ByName number) texts =
-    rendered_field name (shown (unwrap_or (slice_get texts number) []))
+    rendered_field name (shown_text (unwrap_or (slice_get texts number) []))

@@ -41,16 +41,16 @@ nothing_read = record {
       [];
 }
 
-abbrev pub opened : Bracket → ScanState → ScanState
-opened bracket s = record s { brackets = bracket ∷ s.brackets }
+abbrev pub bracket_opened : Bracket → ScanState → ScanState
+bracket_opened bracket s = record s { brackets = bracket ∷ s.brackets }
 
 -- a bracket that closes nothing is ignored
-abbrev pub closed : ScanState → ScanState
-closed s = record s { brackets = drop 1 s.brackets }
+abbrev pub bracket_closed : ScanState → ScanState
+bracket_closed s = record s { brackets = drop 1 s.brackets }
 
 -- this many bytes in, a place with exactly `level` open brackets
-abbrev pub noted : ℕ → ℕ → ScanState → ScanState
-noted level at s =
+abbrev pub place_noted : ℕ → ℕ → ScanState → ScanState
+place_noted level at s =
     if length s.brackets == level then record s { place = at; left_open = s.brackets } else s
 
 abbrev pub read_in_text : ℕ → ScanState → ScanState
@@ -63,9 +63,9 @@ read_in_text byte s =
 abbrev pub read_outside : ℕ → ℕ → ℕ → ScanState → ScanState
 read_outside level at byte s =
     if byte == 34 then record s { in_text = true }
-    else if byte == 91 then noted level at (opened Square s)
-    else if byte == 123 then noted level at (opened Curly s)
-    else if (byte == 93) || (byte == 125) then noted level at (closed s)
+    else if byte == 91 then place_noted level at (bracket_opened Square s)
+    else if byte == 123 then place_noted level at (bracket_opened Curly s)
+    else if (byte == 93) || (byte == 125) then place_noted level at (bracket_closed s)
     else s
 
 abbrev pub byte_read : ℕ → ℕ → ℕ → ScanState → ScanState
@@ -85,11 +85,11 @@ level_by None = 2
 level_by (Some byte) = if byte == 91 then 1 else 2
 
 -- the count of open brackets between two elements: the list's, and that of an object around it
-abbrev pub level_of : List ℕ → ℕ
-level_of text = level_by (first_byte text)
+abbrev pub element_depth : List ℕ → ℕ
+element_depth text = level_by (first_byte text)
 
 abbrev pub scan_of : List ℕ → ScanState
-scan_of text = scan_from (level_of text) 0 text nothing_read
+scan_of text = scan_from (element_depth text) 0 text nothing_read
 
 abbrev pub closer : Bracket → List ℕ
 closer Square = codes "]"

@@ -11,7 +11,7 @@ use Rattle.ttree_chrome.specs.Element.{element_of}
 use Rattle.ttree_chrome.specs.Gather.{GatheredState, all_items, gathered_one, item_cmp, nothing_gathered}
 use Rattle.ttree_chrome.specs.Later.{marked}
 use Rattle.ttree_chrome.specs.Text.{elements_in, is_cut, mended}
-use Rattle.ttree_chrome.specs.Tree.{begun_tree, clock_start, finished, stepped_all}
+use Rattle.ttree_chrome.specs.Tree.{begun_tree, clock_start, stepped_all, trace_finished}
 use Rattle.ttree_source.specs.Counts.{one_more}
 use Rattle.tracing_tree_layer.specs.Layered.Answered.{IsAnswered}
 use Rattle.ttree_source.specs.Source.{Makes, StopsIn}
@@ -95,7 +95,7 @@ IsInOrder items ordered = IsPermutation items ordered × IsSorted item_cmp order
 -- the calls of items in their order
 abbrev pub calls_in_order : ℕ → Moment → Cut → Leaves → GatheredState → List Item → List Call
 calls_in_order next moment cut leaves gathered ordered =
-    (finished
+    (trace_finished
     (stepped_all (marked cut.min_time ordered)
     (begun_tree next moment (clock_start ordered) cut leaves gathered.processes gathered.threads
     gathered.strings.texts))).calls

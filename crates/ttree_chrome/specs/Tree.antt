@@ -8,7 +8,7 @@ use Rattle.tracing_tree_base.specs.declared.style.Level.TheVariants.{Info}
 use Rattle.tracing_tree_spans.specs.Registry.Ids.{id_of}
 use Rattle.tracing_tree_layer.specs.declared.call.Call.{Call}
 use Rattle.ttree_chrome.specs.Gather.{process_of, same_lane}
-use Rattle.ttree_chrome.specs.Later.{is_long}
+use Rattle.ttree_chrome.specs.Later.{is_long_item}
 use Rattle.ttree_chrome.specs.Number.{zero_time}
 use Rattle.ttree_chrome.specs.Strings.{label_field, same_label}
 use Rattle.ttree_source.specs.Length.{length_text}
@@ -72,8 +72,8 @@ begun_tree next moment origin cut leaves processes threads strings = record {
   calls = [];
 }
 
-abbrev pub emitted : Call → TreeState → TreeState
-emitted call s = record s { calls = s.calls ++ call ∷ [] }
+abbrev pub trace_call_emitted : Call → TreeState → TreeState
+trace_call_emitted call s = record s { calls = s.calls ++ call ∷ [] }
 
 -- the moment of a time
 abbrev pub moment_at : ℕ → TreeState → Moment
@@ -85,22 +85,24 @@ at_moment time s = record s { moment = moment_at time s }
 -- ---- leaves
 
 -- a span opens at its start
-abbrev pub opened : Waiting → TreeState → TreeState
-opened span s =
-    record (emitted (span_call (moment_at span.start s) span.name span.fields span.parent) s) {
+abbrev pub span_opened : Waiting → TreeState → TreeState
+span_opened span s =
+    record (trace_call_emitted
+    (span_call (moment_at span.start s) span.name span.fields span.parent) s) {
       next = one_more s.next;
     }
 
 abbrev pub with_settled : Option Waiting → TreeState → TreeState
 with_settled None s = s
-with_settled (Some span) s = opened span (record s { waiting = None })
+with_settled (Some span) s = span_opened span (record s { waiting = None })
 
 -- something is drawn in the innermost span: it isn't a leaf
 abbrev pub settled : TreeState → TreeState
 settled s = with_settled s.waiting s
 
-abbrev pub event_emitted : List Field → Option Id → TreeState → TreeState
-event_emitted fields parent s = emitted (event_call s.moment Info fields parent) (settled s)
+abbrev pub trace_event_emitted : List Field → Option Id → TreeState → TreeState
+trace_event_emitted fields parent s =
+    trace_call_emitted (event_call s.moment Info fields parent) (settled s)
 
 -- a leaf as an event at its start
 abbrev pub leaf_call : Waiting → TreeState → Call
@@ -174,7 +176,7 @@ length_field nanoseconds = rendered_field (codes "time") (length_text nanosecond
 abbrev pub left_out_emitted : Frame → TreeState → TreeState
 left_out_emitted frame s =
     if frame.left.spans == 0 then s
-    else event_emitted
+    else trace_event_emitted
     (message_field (codes "left out") ∷ whole_field (codes "spans") (pos frame.left.spans)
     ∷ length_field frame.left.time ∷ []) frame.id s
 
@@ -182,27 +184,27 @@ abbrev pub at_end : Option Point → TreeState → TreeState
 at_end (Some end) s = at_moment end.time s
 at_end None s = s
 
-abbrev pub closed : Option Id → Option Id → TreeState → TreeState
-closed (Some id) parent s = emitted (close_call s.moment id parent) s
-closed None parent s = s
+abbrev pub span_closed : Option Id → Option Id → TreeState → TreeState
+span_closed (Some id) parent s = trace_call_emitted (close_call s.moment id parent) s
+span_closed None parent s = s
 
 abbrev pub closed_as : Option Waiting → Frame → TreeState → TreeState
-closed_as None frame s = closed frame.id frame.parent s
-closed_as (Some span) frame s = emitted (leaf_call span s) (record s { waiting = None })
+closed_as None frame s = span_closed frame.id frame.parent s
+closed_as (Some span) frame s = trace_call_emitted (leaf_call span s) (record s { waiting = None })
 
 -- a span closes, or it is a leaf
 abbrev pub closed_or_leaf : Frame → TreeState → TreeState
 closed_or_leaf frame s = closed_as s.waiting frame s
 
-abbrev pub left : Frame → TreeState → TreeState
-left frame s = closed_or_leaf frame (left_out_emitted frame (at_end frame.end s))
+abbrev pub frame_left : Frame → TreeState → TreeState
+frame_left frame s = closed_or_leaf frame (left_out_emitted frame (at_end frame.end s))
 
 -- spans are left from the innermost on
 abbrev pub left_while : Until → List Frame → TreeState → TreeState
 left_while until [] s = s
 left_while until (frame ∷ below) s =
     if is_left until frame (length below)
-    then left_while until below (left frame (record s { frames = below })) else s
+    then left_while until below (frame_left frame (record s { frames = below })) else s
 
 -- ---- processes and threads
 
@@ -224,8 +226,8 @@ abbrev pub emitted_name : List Name → Lane → Option (List ℕ)
 emitted_name names lane = option_map text_in (find (is_of_lane lane) (reverse names))
 
 -- the name of a process or a thread, by the last element that names it
-abbrev pub name_in : List Name → Lane → List ℕ → List ℕ
-name_in names lane unnamed = unwrap_or (emitted_name names lane) unnamed
+abbrev pub lane_name : List Name → Lane → List ℕ → List ℕ
+lane_name names lane unnamed = unwrap_or (emitted_name names lane) unnamed
 
 -- the count of levels above the threads of a process
 abbrev pub process_depth : Lane → ℕ
@@ -239,16 +241,17 @@ is_within levels (Some depth) = nat_le levels depth
 is_within levels None = true
 
 -- one more span isn't too deep; the root counts as open, too
-abbrev pub fits : TreeState → Bool
-fits s = is_within (length s.frames) s.cut.depth
+abbrev pub fits_depth : TreeState → Bool
+fits_depth s = is_within (length s.frames) s.cut.depth
 
 -- the span of a process or a thread opens at this time, unless it would be too deep
 abbrev pub lane_opened : List ℕ → Field → ℕ → TreeState → TreeState
-lane_opened name field time s = if fits s then settled (put name (field ∷ []) time None s) else s
+lane_opened name field time s =
+    if fits_depth s then settled (put name (field ∷ []) time None s) else s
 
 abbrev pub process_opened_as : Option Label → Lane → ℕ → TreeState → TreeState
 process_opened_as (Some process) lane time s =
-    lane_opened (name_in s.processes (process_of lane) (codes "process"))
+    lane_opened (lane_name s.processes (process_of lane) (codes "process"))
     (label_field (codes "pid") process s.strings) time s
 process_opened_as None lane time s = s
 
@@ -257,7 +260,7 @@ process_opened lane time s = process_opened_as lane.process lane time s
 
 abbrev pub thread_opened_as : Option Label → Lane → ℕ → TreeState → TreeState
 thread_opened_as (Some thread) lane time s =
-    lane_opened (name_in s.threads lane (codes "thread"))
+    lane_opened (lane_name s.threads lane (codes "thread"))
     (label_field (codes "tid") thread s.strings) time s
 thread_opened_as None lane time s = s
 
@@ -271,8 +274,8 @@ abbrev pub entered_thread : Lane → ℕ → TreeState → TreeState
 entered_thread lane time s = thread_opened_as lane.thread lane time (at_moment time s)
 
 -- the previous thread is left for this one
-abbrev pub entered : Lane → ℕ → TreeState → TreeState
-entered lane time s =
+abbrev pub lane_entered : Lane → ℕ → TreeState → TreeState
+lane_entered lane time s =
     if is_lane lane s.lane then s
     else record (entered_thread lane time (entered_process lane time s)) { lane = Some lane }
 
@@ -297,8 +300,8 @@ fields_as Whole item = length_field (item.end.time - item.start.time) ∷ []
 fields_as Unended item = []
 
 -- how long a span took, if that is known
-abbrev pub span_fields : Item → List Field
-span_fields item = fields_as item.shape item
+abbrev pub duration_fields : Item → List Field
+duration_fields item = fields_as item.shape item
 
 -- a span may be a leaf if its end is known and leaves are rows
 abbrev pub may_be_leaf : Leaves → Shape → Bool
@@ -309,11 +312,11 @@ may_be_leaf Rows Unended = false
 
 abbrev pub span_put : Item → TreeState → TreeState
 span_put item s =
-    put item.name (span_fields item ++ item.fields) item.start.time
+    put item.name (duration_fields item ++ item.fields) item.start.time
     (span_end item (current_end s)) s
 
-abbrev pub span_shown : Item → TreeState → TreeState
-span_shown item s =
+abbrev pub item_span_shown : Item → TreeState → TreeState
+item_span_shown item s =
     if may_be_leaf s.leaves item.shape then span_put item s else settled (span_put item s)
 
 abbrev pub extent_as : Shape → Item → ℕ
@@ -331,8 +334,8 @@ counted_until item was = if is_lane item.lane was.lane then was.until else 0
 
 -- What was left out, and this span too. The time of a thread in which another span was left out
 -- already isn't counted again.
-abbrev pub added : Item → Left → Left
-added item was = record {
+abbrev pub with_left_out : Item → Left → Left
+with_left_out item was = record {
   spans = one_more was.spans;
   time = min (was.time + (extent item - max item.start.time (counted_until item was))) (2 ^ 64 - 1);
   lane = Some item.lane;
@@ -341,17 +344,17 @@ added item was = record {
 
 abbrev pub added_on_top : Item → List Frame → List Frame
 added_on_top item [] = []
-added_on_top item (frame ∷ below) = record frame { left = added item frame.left } ∷ below
+added_on_top item (frame ∷ below) = record frame { left = with_left_out item frame.left } ∷ below
 
 -- a span counts as left out in the innermost
-abbrev pub left_out : Item → TreeState → TreeState
-left_out item s = record s { frames = added_on_top item s.frames }
+abbrev pub span_left_out : Item → TreeState → TreeState
+span_left_out item s = record s { frames = added_on_top item s.frames }
 
 abbrev pub span_placed : Item → TreeState → TreeState
-span_placed item s = if fits s then span_shown item s else left_out item s
+span_placed item s = if fits_depth s then item_span_shown item s else span_left_out item s
 
 abbrev pub event_shown : Item → TreeState → TreeState
-event_shown item s = event_emitted (message_field item.name ∷ item.fields) (current s) s
+event_shown item s = trace_event_emitted (message_field item.name ∷ item.fields) (current s) s
 
 abbrev pub placed_as : Shape → Item → TreeState → TreeState
 placed_as Event item s = event_shown item s
@@ -359,8 +362,8 @@ placed_as Whole item s = span_placed item s
 placed_as Unended item s = span_placed item s
 
 -- an item is drawn in the innermost span
-abbrev pub placed : Item → TreeState → TreeState
-placed item s = placed_as item.shape item s
+abbrev pub item_placed : Item → TreeState → TreeState
+item_placed item s = placed_as item.shape item s
 
 abbrev pub left_by : Point → TreeState → TreeState
 left_by point s = left_while (Ended point) s.frames s
@@ -376,14 +379,14 @@ shown_lane item s =
 -- a span that is too short counts as left out in the innermost
 abbrev pub passed_over : Item → TreeState → TreeState
 passed_over item s =
-    left_out item (left_by item.start (entered (shown_lane item s) item.start.time s))
+    span_left_out item (left_by item.start (lane_entered (shown_lane item s) item.start.time s))
 
 -- An item is drawn in the innermost span of its thread that hasn't ended.
-abbrev pub stepped : Item → TreeState → TreeState
-stepped item s =
-    if is_long item s.cut.min_time
-    then placed item
-    (at_moment item.start.time (left_by item.start (entered item.lane item.start.time s)))
+abbrev pub item_stepped : Item → TreeState → TreeState
+item_stepped item s =
+    if is_long_item item s.cut.min_time
+    then item_placed item
+    (at_moment item.start.time (left_by item.start (lane_entered item.lane item.start.time s)))
     else passed_over item s
 
 -- where the clock of the drawing starts: at the trace's zero, or at the first item before it
@@ -393,8 +396,8 @@ clock_start (item ∷ others) = min item.start.time (clock_start others)
 
 abbrev pub stepped_all : List Item → TreeState → TreeState
 stepped_all [] s = s
-stepped_all (item ∷ others) s = stepped_all others (stepped item s)
+stepped_all (item ∷ others) s = stepped_all others (item_stepped item s)
 
 -- all that is open closes
-abbrev pub finished : TreeState → TreeState
-finished s = left_while (Depth 0) s.frames s
+abbrev pub trace_finished : TreeState → TreeState
+trace_finished s = left_while (Depth 0) s.frames s

@@ -2,7 +2,7 @@
 
 ghost use Rattle.std.specs.Prelude.{◌≡◌, IfOk, option_map};
 ghost use Rattle.json.specs.Value.{value_view};
-ghost use Rattle.ttree_chrome.specs.Element.{async_in, async_of, element_of, entry_in, fields_in, given_name, id_in, ident_at, ident_in, length_at, name_in, named_as, named_in, naming_of, owner_in, phase_of, phased, span_of, text_of, time_at, timed_in, track_in, with_id};
+ghost use Rattle.ttree_chrome.specs.Element.{async_in, async_of, element_name, element_of, entry_in, fields_in, given_name, ident_at, ident_in, length_at, named_as, named_in, naming_of, owner_in, phase_of, phased, span_element, time_at, timed_in, track_id, track_in, with_id, written_text};
 
 use crate::number::{integer_of, length_of, time_of};
 use json::Value;
@@ -175,7 +175,7 @@ fn track_in(alloc: Global, value: &Value<'_>) -> Result<Text, AllocError>
 
 // Returns the id of an element's asynchronous track. It is empty if the element doesn't have one.
 fn id_in<'v>(value: &'v Value<'_>) -> &'v str
-    ensures { result.now ≡ id_in (value_view value.now) }
+    ensures { result.now ≡ track_id (value_view value.now) }
 {
     match value.get("id2") {
         Some(id) => match id.get("local") {
@@ -188,7 +188,7 @@ fn id_in<'v>(value: &'v Value<'_>) -> &'v str
 
 // Returns a string, or a number as written. It is empty for any other value.
 fn text_of<'v>(value: Option<&'v Value<'_>>) -> &'v str
-    ensures { result.now ≡ text_of (option_map (λ v. value_view v.now) value.entry) }
+    ensures { result.now ≡ written_text (option_map (λ v. value_view v.now) value.entry) }
 {
     match value {
         Some(Value::String(text)) => text,
@@ -241,7 +241,7 @@ fn phased(phase: Phase, entry: Entry, value: &Value<'_>) -> Result<Element, Prob
 
 // Returns a span of this length in nanoseconds.
 fn span_of(entry: Entry, length: Option<u64>) -> Result<Element, Problem>
-    ensures { result ≡ span_of entry length }
+    ensures { result ≡ span_element entry length }
 {
     let Some(length) = length else {
         return Err(Problem::Duration);
@@ -314,7 +314,7 @@ fn given_name<'v>(value: &'v Value<'_>) -> Option<&'v str>
 
 // Returns the name of an element. It is empty if the element doesn't have one.
 fn name_in<'v>(value: &'v Value<'_>) -> &'v str
-    ensures { result.now ≡ name_in (value_view value.now) }
+    ensures { result.now ≡ element_name (value_view value.now) }
 {
     match text_at(value, "name") {
         Some(name) => name,

@@ -1,7 +1,7 @@
 //! Collects the elements of a trace.
 
 ghost use Rattle.std.specs.Prelude.{◌≡◌, ◌∷◌, ◌++◌, [], ◌<◌, length, IfOk, IfSome, OnOk, IsPermutation, IsSorted};
-ghost use Rattle.ttree_chrome.specs.Gather.{began, drawn, ended, gathered_one, happened, item_cmp, item_of, lane_of, last_in, none_later, nothing_gathered, on_track, owned, placed, process_named, process_of, same_lane, thread_named, tracked, tracked_as, undrawn_one, whole};
+ghost use Rattle.ttree_chrome.specs.Gather.{began, drawn, entry_placed, gathered_one, happened, item_cmp, item_of, lane_of, lane_span_ended, last_in, none_later, nothing_gathered, on_track, owned, process_named, process_of, same_lane, thread_named, tracked, tracked_as, undrawn_one, whole};
 
 use crate::element::{Element, Entry, Owner, Track};
 use crate::keys::Keys;
@@ -168,7 +168,7 @@ impl Gathered {
 
     // Returns an entry in its lane.
     fn place(&mut self, entry: Entry) -> Result<Placed, AllocError>
-        ensures place { IfOk result (λ one. one ≡ placed entry self.old.strings) }
+        ensures place { IfOk result (λ one. one ≡ entry_placed entry self.old.strings) }
         ensures strings { OnOk result (self.new ≡ owned entry.owner self.old) }
     {
         let Entry {
@@ -258,7 +258,7 @@ impl Gathered {
     // Ends the lane's span that began last, with the element at `index`. If the lane has no open
     // span, the element has no row.
     fn end(&mut self, one: Placed, index: u64) -> Result<(), AllocError>
-        ensures { OnOk result (self.new ≡ ended one index self.old) }
+        ensures { OnOk result (self.new ≡ lane_span_ended one index self.old) }
     {
         match last_in(self.begun.as_slice(), one.lane) {
             Some(at) => {

@@ -1,14 +1,14 @@
 //! Which items of a trace are drawn, and whether others of their thread and their process follow.
 
 ghost use Rattle.std.specs.Prelude.{◌≡◌, IfOk, reverse};
-ghost use Rattle.ttree_chrome.specs.Later.{first_of, is_long, later_by, marked, noted};
+ghost use Rattle.ttree_chrome.specs.Later.{first_of, is_long_item, later_by, marked, with_later};
 
 use crate::gather::{Item, Later, Shape, none_later, same_lane};
 use std::alloc::{AllocError, Global};
 
 // Returns whether an item is drawn, given the shortest span that is drawn.
 pub(crate) fn is_long(item: &Item, min_duration: u64) -> bool
-    ensures { result ≡ is_long item.now min_duration }
+    ensures { result ≡ is_long_item item.now min_duration }
 {
     match item.shape {
         Shape::Whole => item.end.time.saturating_sub(item.start.time) >= min_duration,
@@ -34,7 +34,7 @@ pub(crate) fn marked(
 }
 
 fn noted(item: Item, later: Later) -> Item
-    ensures { result ≡ noted later item }
+    ensures { result ≡ with_later later item }
 {
     let mut item = item;
     item.later = later;

@@ -2,7 +2,7 @@
 
 ghost use Rattle.std.specs.Prelude.{◌≡◌, ◌*◌, ◌^◌, ◌<◌, IfSome};
 ghost use Rattle.std.specs.Str.{all_ascii_digits};
-ghost use Rattle.ttree_chrome.specs.Number.{decimal_of, digit_in, digits_after, exponent_of, if_fits, integer_of, is_digits, length_of, moved, moved_left, moved_right, nanoseconds_of, scaled_of, time_of, unsigned_of};
+ghost use Rattle.ttree_chrome.specs.Number.{digit_in, digits_after, exponent_of, if_fits, integer_of, is_digits, length_of, microseconds_time, moved, moved_left, moved_right, scaled_decimal, scaled_of, small_nanoseconds, unsigned_of};
 
 use ttree_source::marks::after_mark;
 
@@ -11,7 +11,7 @@ pub(crate) const ZERO: u64 = 1 << 63;
 
 // Returns the time of a number of microseconds.
 pub(crate) fn time_of(text: &str) -> Option<u64>
-    ensures { result ≡ time_of text.now }
+    ensures { result ≡ microseconds_time text.now }
 {
     match after_mark(text, "-") {
         Some(size) => Some(ZERO - nanoseconds_of(size)?),
@@ -34,7 +34,7 @@ pub(crate) fn length_of(text: &str) -> Option<u64>
 
 // Returns the nanoseconds for a number of microseconds without a sign, if they are less than 2^63.
 fn nanoseconds_of(text: &str) -> Option<u64>
-    ensures value { result ≡ nanoseconds_of text.now }
+    ensures value { result ≡ small_nanoseconds text.now }
     ensures small { IfSome result (λ n. n < 2 ^ 63) }
 {
     let nanoseconds = unsigned_of(text)?;
@@ -85,7 +85,7 @@ fn scaled_of(text: &str, exponent: i32) -> Option<u64>
 // Returns the number that the digits before and after a point encode, if the point moves by this
 // many places to the right. Digits after it are cut off. `None` if it doesn't fit `u64`.
 fn decimal_of(places: i64, before: &str, after: &str) -> Option<u64>
-    ensures { result ≡ decimal_of places before.now after.now }
+    ensures { result ≡ scaled_decimal places before.now after.now }
 {
     if is_digits(before) && is_digits(after) {
         moved(places, before.as_bytes(), after.as_bytes())

@@ -2,7 +2,7 @@
 
 ghost use Rattle.std.specs.Prelude.{◌≡◌, ◌++◌, IfOk, OnOk, flat_map, option_map, reverse, string_bytes};
 ghost use Rattle.json.specs.Value.{items_view, value_view};
-ghost use Rattle.ttree_chrome.specs.Text.{byte_read, closed, closer, elements_in, has_more, is_closing, is_cut, level_of, mended, noted, nothing_read, opened, read_in_text, read_outside, scan_of};
+ghost use Rattle.ttree_chrome.specs.Text.{bracket_closed, bracket_opened, byte_read, closer, element_depth, elements_in, has_more, is_closing, is_cut, mended, nothing_read, place_noted, read_in_text, read_outside, scan_of};
 
 use json::Value;
 use std::alloc::{AllocError, Global};
@@ -159,20 +159,20 @@ impl Scan {
     }
 
     fn push(&mut self, bracket: Bracket) -> Result<(), AllocError>
-        ensures { OnOk result (self.new ≡ opened bracket self.old) }
+        ensures { OnOk result (self.new ≡ bracket_opened bracket self.old) }
     {
         Ok(self.brackets.push(bracket)?)
     }
 
     fn pop(&mut self)
-        ensures { self.new ≡ closed self.old }
+        ensures { self.new ≡ bracket_closed self.old }
     {
         self.brackets.pop();
     }
 
     // Records a place between two elements, at which only the list and what contains it are open.
     fn note(&mut self, level: usize, at: usize) -> Result<(), AllocError>
-        ensures { OnOk result (self.new ≡ noted level at self.old) }
+        ensures { OnOk result (self.new ≡ place_noted level at self.old) }
     {
         if self.brackets.len() != level {
             return Ok(());
@@ -201,7 +201,7 @@ fn scan_of(alloc: Global, text: &[u8]) -> Result<Scan, AllocError>
 // Returns how many brackets are open between two elements: the list's, and that of an object that
 // contains it.
 fn level_of(text: &[u8]) -> usize
-    ensures { result ≡ level_of text.now }
+    ensures { result ≡ element_depth text.now }
 {
     match first_byte(text) {
         Some(b'[') => 1,

@@ -3,7 +3,7 @@
 ghost use Rattle.std.specs.Prelude.{◌≡◌, ◌∷◌, [], drop, IfOk, None, OnOk, option_map, reverse};
 ghost use Rattle.ttree_source.specs.Calls.{message_field};
 ghost use Rattle.ttree_chrome.specs.Later.{marked};
-ghost use Rattle.ttree_chrome.specs.Tree.{added, at_moment, begun_tree, clock_start, closed_or_leaf, counted_until, current, current_end, entered, entered_process, entered_thread, event_shown, event_emitted, extent, finished, fits, frame_of, is_by, is_in_process, is_lane, is_left, is_of_lane, lane_opened, leaf_call, leaving, leaving_count, left, left_out, left_out_emitted, left_while, length_field, may_be_leaf, moment_at, name_in, opened, passed_over, placed, process_depth, process_opened, put, settled, shown_lane, span_end, span_fields, span_placed, span_put, span_shown, stepped, stepped_all, emitted, emitted_name, within};
+ghost use Rattle.ttree_chrome.specs.Tree.{with_left_out, at_moment, begun_tree, clock_start, closed_or_leaf, counted_until, current, current_end, lane_entered, entered_process, entered_thread, event_shown, trace_event_emitted, extent, trace_finished, fits_depth, frame_of, is_by, is_in_process, is_lane, is_left, is_of_lane, lane_opened, leaf_call, leaving, leaving_count, frame_left, span_left_out, left_out_emitted, left_while, length_field, may_be_leaf, moment_at, lane_name, span_opened, passed_over, item_placed, process_depth, process_opened, put, settled, shown_lane, span_end, duration_fields, span_placed, span_put, item_span_shown, item_stepped, stepped_all, trace_call_emitted, emitted_name, within};
 
 use crate::gather::{Item, Lane, Name, Point, Shape, process_of, same_lane};
 use crate::later::{is_long, marked};
@@ -144,7 +144,7 @@ impl Tree {
     // Draws these items one after another, then closes all open spans.
     pub(crate) fn draw(&mut self, items: Vec<Item>) -> Result<(), AllocError>
         ensures { OnOk result (self.new
-            ≡ finished (stepped_all (marked self.old.cut.min_time items.items) self.old)) }
+            ≡ trace_finished (stepped_all (marked self.old.cut.min_time items.items) self.old)) }
     {
         let items = marked(self.alloc, items, self.cut.min_time)?;
         self.step_all(items)?;
@@ -172,7 +172,7 @@ impl Tree {
     // Draws an item in the innermost span of its thread that hasn't ended, or counts a span that is
     // too short.
     fn step(&mut self, item: Item) -> Result<(), AllocError>
-        ensures { OnOk result (self.new ≡ stepped item self.old) }
+        ensures { OnOk result (self.new ≡ item_stepped item self.old) }
     {
         if !is_long(&item, self.cut.min_time) {
             return self.pass_over(&item);
@@ -230,7 +230,7 @@ impl Tree {
 
     // Leaves the current thread for this one.
     fn enter(&mut self, lane: Lane, time: u64) -> Result<(), AllocError>
-        ensures { OnOk result (self.new ≡ entered lane time self.old) }
+        ensures { OnOk result (self.new ≡ lane_entered lane time self.old) }
     {
         if is_lane(lane, self.lane) {
             return Ok(());
@@ -323,7 +323,7 @@ impl Tree {
     }
 
     fn open(&mut self, span: Waiting) -> Result<(), AllocError>
-        ensures { OnOk result (self.new ≡ opened span self.old) }
+        ensures { OnOk result (self.new ≡ span_opened span self.old) }
     {
         let Waiting {
             start,
@@ -385,7 +385,7 @@ impl Tree {
 
     // Closes a span that was removed, and records what was left out in it.
     fn leave(&mut self, frame: Frame) -> Result<(), AllocError>
-        ensures { OnOk result (self.new ≡ left frame self.old) }
+        ensures { OnOk result (self.new ≡ frame_left frame self.old) }
     {
         if let Some(end) = frame.end {
             self.go_to(end.time);
@@ -409,7 +409,7 @@ impl Tree {
 
     // Draws a leaf as an event at its start.
     fn show_leaf(&mut self, span: Waiting) -> Result<(), AllocError>
-        ensures { OnOk result (self.new ≡ emitted (leaf_call span self.old) self.old) }
+        ensures { OnOk result (self.new ≡ trace_call_emitted (leaf_call span self.old) self.old) }
     {
         let Waiting {
             start,
@@ -438,7 +438,7 @@ impl Tree {
     }
 
     fn push_event(&mut self, fields: Fields, parent: Option<Id>) -> Result<(), AllocError>
-        ensures { OnOk result (self.new ≡ event_emitted fields parent self.old) }
+        ensures { OnOk result (self.new ≡ trace_event_emitted fields parent self.old) }
     {
         self.settle()?;
         let call = event_call(self.alloc, self.moment, Level::Info, fields, parent)?;
@@ -447,7 +447,7 @@ impl Tree {
 
     // Draws an item in the innermost span.
     fn place(&mut self, item: Item) -> Result<(), AllocError>
-        ensures { OnOk result (self.new ≡ placed item self.old) }
+        ensures { OnOk result (self.new ≡ item_placed item self.old) }
     {
         match item.shape {
             Shape::Event => self.show_event(item),
@@ -485,7 +485,7 @@ impl Tree {
 
     // Returns whether one more span isn't too deep.
     fn fits(&self) -> bool
-        ensures { result ≡ fits self.now }
+        ensures { result ≡ fits_depth self.now }
     {
         match self.cut.depth {
             Some(depth) => self.frames.len() <= depth,
@@ -494,7 +494,7 @@ impl Tree {
     }
 
     fn show_span(&mut self, item: Item) -> Result<(), AllocError>
-        ensures { OnOk result (self.new ≡ span_shown item self.old) }
+        ensures { OnOk result (self.new ≡ item_span_shown item self.old) }
     {
         let waits = may_be_leaf(self.leaves, item.shape);
         self.put_span(item)?;
@@ -515,7 +515,7 @@ impl Tree {
 
     // Counts a span as left out in the innermost one.
     fn leave_out(&mut self, item: &Item)
-        ensures { self.new ≡ left_out item.now self.old }
+        ensures { self.new ≡ span_left_out item.now self.old }
     {
         if let Some(frame) = self.frames.as_mut_slice().last_mut() {
             frame.left = added(item, frame.left);
@@ -624,7 +624,7 @@ fn process_depth(lane: Lane) -> usize
 
 // Returns the name of a process or a thread, from the last element that has it.
 fn name_in<'n>(names: &'n [Name], lane: Lane, unnamed: &'n str) -> &'n str
-    ensures { result.now ≡ name_in names.now lane unnamed.now }
+    ensures { result.now ≡ lane_name names.now lane unnamed.now }
 {
     match emitted_name(names, lane) {
         Some(name) => name,
@@ -669,7 +669,7 @@ fn within(end: Point, parent: Option<Point>) -> Point
 
 // Returns how long a span took, if known, as a field.
 fn span_fields(alloc: Global, item: &Item) -> Result<Fields, AllocError>
-    ensures { IfOk result (λ fields. fields ≡ span_fields item.now) }
+    ensures { IfOk result (λ fields. fields ≡ duration_fields item.now) }
 {
     let mut fields = Vec::new(alloc);
     if let Shape::Whole = item.shape {
@@ -691,7 +691,7 @@ fn length_field(alloc: Global, nanoseconds: u64) -> Result<Field, AllocError>
 // Adds a span to those left out. Time in which another span of its thread was left out isn't
 // counted again.
 fn added(item: &Item, left: Left) -> Left
-    ensures { result ≡ added item.now left }
+    ensures { result ≡ with_left_out item.now left }
 {
     let until = counted_until(item, &left);
     let end = extent(item);

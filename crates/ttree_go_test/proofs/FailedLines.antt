@@ -5,7 +5,7 @@ use Rattle.json.specs.Json.{Json}
 use Rattle.tracing_tree_layer.specs.declared.call.Call.{Call}
 use Rattle.ttree_source.specs.Source.{Step, Emits}
 use Rattle.ttree_go_test.specs.GoTest.{GoState, takes_value_as}
-use Rattle.ttree_go_test.specs.Failed.{FailedState, Knows, Pending, failed_step, line_taken}
+use Rattle.ttree_go_test.specs.Failed.{FailedState, Knows, Pending, failed_line_taken, failed_step}
 
 -- a known line is processed, and an unknown one changes nothing
 pub took : (state : Option GoState) (old new : GoState) (known : Bool) → takes_value_as state old new known → new ≡ unwrap_or state old
@@ -41,12 +41,12 @@ emits_unknown (Some step) line value old new true e h = cc
 emits_unknown (Some step) line value old new false e h = cc
 
 pub emits_known : (known : Option (Step GoState)) (line : List ℕ) (value : Option Json) (old counted taken new : FailedState) (emitted : List Call) (is_known : Bool) → is_known ≡ true →
-    Knows known old counted is_known → taken ≡ line_taken line value counted → emitted ≡ taken.shown.calls → new ≡ record taken { shown = record taken.shown { calls = [] } } →
+    Knows known old counted is_known → taken ≡ failed_line_taken line value counted → emitted ≡ taken.shown.calls → new ≡ record taken { shown = record taken.shown { calls = [] } } →
     Emits (option_map (failed_step line value old) known) old new (Some emitted)
 emits_known None line value old counted taken new emitted false e h line_is emitted_is new_is = cc
 emits_known None line value old counted taken new emitted true e h line_is emitted_is new_is = cc
 emits_known (Some step) line value old counted taken new emitted is_known e h line_is emitted_is new_is =
-    let all : taken ≡ line_taken line value (record old { whole = step.source }) = line_is ∙ ap (line_taken line value) h.0 in (
+    let all : taken ≡ failed_line_taken line value (record old { whole = step.source }) = line_is ∙ ap (failed_line_taken line value) h.0 in (
       emitted_is ∙ ap (λ (s : FailedState). s.shown.calls) all,
       new_is ∙ ap (λ (s : FailedState). record s { shown = record s.shown { calls = [] } }) all,
     )

@@ -22,7 +22,7 @@ use Rattle.ttree_source.specs.Marks.{after_mark, begins, is_empty}
 use Rattle.ttree_source.specs.Source.{Interpreted, interpret, interpret_line, interpreted_step}
 use Rattle.ttree_source.specs.Calls.{event_call, message_field}
 use Rattle.ttree_source.specs.Values.{text_at}
-use Rattle.ttree_go_test.specs.Failures.{has_begun, is_fail, is_failure, package_runs, some_failed, emits_failure}
+use Rattle.ttree_go_test.specs.Failures.{has_begun, is_fail, reports_failure, package_runs, some_failed, emits_failure}
 use Rattle.ttree_go_test.specs.Names.{named, put, without}
 use Rattle.ttree_go_test.specs.Texts.{ends_line, is_frame, is_package_frame, own_name, up_to_space, without_line_end}
 use Rattle.ttree_go_test.specs.declared.go_test.builds.Build.{Build}
@@ -30,7 +30,7 @@ use Rattle.ttree_go_test.specs.declared.go_test.running.Kind.{Kind}
 use Rattle.ttree_go_test.specs.declared.go_test.running.Running.{Running}
 use Rattle.ttree_go_test.specs.declared.go_test.tally.Ending.{Ending}
 use Rattle.ttree_go_test.specs.declared.go_test.tally.Ending.TheVariants.{Passed, Failed, Skipped, Unfinished}
-use Rattle.ttree_go_test.specs.GoTest.{GoState, Held, Tests, above_held, acted, acted_for, all_ended, all_left_over, begun, begun_in, build_last, build_over, build_printed, build_printed_if, build_said, build_emitted, builds_said, builds_emitted, built_after, counted, elapsed_fields, elapsed_in, end_fields, ended, event_emitted, failed_counted, fails_as, finished, frame_printed, framed, go_takes, handed_out, has_failed, held, holds, is_aside, is_framing, kept, kind_in, left_as, left_one, left_over, level_of, level_of_build, level_of_line, level_of_text, line_of, line_emitted, more_printed, moved, noted, noted_left, nothing_run, one_ended, only_closed, opened, opened_as, owner, package_counted, package_ended, package_failed, package_left, package_of, package_over, package_started, packages_left, part_emitted, placed, printed, printed_if, quiet_emitted, ran, running_as, said, span_ended, started, string_printed, takes_failure, takes_heading, takes_json, takes_plain, takes_text, test_ended, test_of, tests_of, text_printed, texts_emitted, timed, emitted, emitted_of_build, without_build, without_heading, without_package, word_of}
+use Rattle.ttree_go_test.specs.GoTest.{GoState, Held, Tests, above_held, acted, acted_for, all_ended, all_left_over, new_running, begun_in, build_last, build_over, build_printed, build_printed_if, build_said, build_emitted, builds_said, builds_emitted, built_after, end_counted, elapsed_fields, elapsed_in, test_end_fields, test_or_package_ended, text_event_emitted, failed_counted, fails_as, held_finished, frame_printed, framed, go_takes, handed_out, any_failed, held_test, holds, is_aside, is_framing, test_kept, output_kind, left_as, left_one, left_over, level_of_ending, level_of_build, level_of_line, level_of_text, line_reported, part_line_emitted, more_printed, moved, end_noted, noted_left, nothing_run, one_ended, only_closed, held_opened, opened_as, owner, package_counted, package_ended, package_failed, package_left, package_of, package_over, package_started, packages_left, part_emitted, test_placed, printed, printed_if, quiet_emitted, ran, running_as, said, span_ended, started, string_printed, takes_failure, takes_heading, takes_json, takes_plain, takes_text, test_ended, test_of, tests_of, text_printed, texts_emitted, at_action_time, emitted_with_last, emitted_of_build, without_build, without_heading, without_package, ending_word}
 
 -- ---- names
 
@@ -151,12 +151,12 @@ all_found path (e ∷ es) h = by (is_eq (cmp path e.0)) (all_found path es h.1) 
 
 -- it stays, and so do the names
 record Stays (s t : GoState) : Type 0 where
-  failed : AllNamed s.packages → has_failed t ≡ has_failed s
+  failed : AllNamed s.packages → any_failed t ≡ any_failed s
   named_too : AllNamed s.packages → AllNamed t.packages
 
 -- it is set if this holds, and otherwise it stays
 record Goes (b : Bool) (s t : GoState) : Type 0 where
-  failed : AllNamed s.packages → has_failed t ≡ (has_failed s || b)
+  failed : AllNamed s.packages → any_failed t ≡ (any_failed s || b)
   named_too : AllNamed s.packages → AllNamed t.packages
 
 or_false : (a : Bool) → (a || false) ≡ a
@@ -178,7 +178,7 @@ then_stays : (s t u : GoState) → Stays s t → Stays t u → Stays s u
 then_stays s t u h k = record { failed = λ w. k.failed (h.named_too w) ∙ h.failed w; named_too = λ w. k.named_too (h.named_too w) }
 
 goes_of : (s t : GoState) → Stays s t → Goes false s t
-goes_of s t h = record { failed = λ w. h.failed w ∙ sym (or_false (has_failed s)); named_too = h.named_too }
+goes_of s t h = record { failed = λ w. h.failed w ∙ sym (or_false (any_failed s)); named_too = h.named_too }
 
 goes_stays : (b : Bool) (s t u : GoState) → Goes b s t → Stays t u → Goes b s u
 goes_stays b s t u h k = record { failed = λ w. k.failed (h.named_too w) ∙ h.failed w; named_too = λ w. k.named_too (h.named_too w) }
@@ -191,7 +191,7 @@ stays_goes b s t u h k = record {
 
 goes_then : (a b : Bool) (s t u : GoState) → Goes a s t → Goes b t u → Goes (a || b) s u
 goes_then a b s t u h k = record {
-  failed = λ w. k.failed (h.named_too w) ∙ ap (λ f. f || b) (h.failed w) ∙ or_assoc (has_failed s) a b;
+  failed = λ w. k.failed (h.named_too w) ∙ ap (λ f. f || b) (h.failed w) ∙ or_assoc (any_failed s) a b;
   named_too = λ w. k.named_too (h.named_too w);
 }
 
@@ -209,45 +209,46 @@ held_if false s h k i j = j
 
 -- ---- what is drawn
 
-event_stays : (level : Level) (text : List ℕ) (rest : List Field) (parent : Option Id) (s : GoState) → Stays s (event_emitted level text rest parent s)
+event_stays : (level : Level) (text : List ℕ) (rest : List Field) (parent : Option Id) (s : GoState) → Stays s (text_event_emitted level text rest parent s)
 event_stays level text rest parent s =
-    stays_if (is_skipped text) s s (emitted parent (event_call s.moment level (message_field text ∷ rest) parent) s) (same s) (record { failed = λ w. refl; named_too = λ w. w })
+    stays_if (is_skipped text) s s (emitted_with_last parent (event_call s.moment level (message_field text ∷ rest) parent) s) (same s) (record { failed = λ w. refl; named_too = λ w. w })
 
 opened_by : (span : Option Id) (h : Held) → Stays h.state (opened_as span h).state
 opened_by (Some id) h = same h.state
 opened_by None h = record { failed = λ w. refl; named_too = λ w. w }
 
-opened_stays : (h : Held) → Stays h.state (opened h).state
+opened_stays : (h : Held) → Stays h.state (held_opened h).state
 opened_stays h = opened_by h.one.span h
 
-said_stays : (level : Level) (text : List ℕ) (h : Held) → Stays h.state (said level text (opened h)).state
+said_stays : (level : Level) (text : List ℕ) (h : Held) → Stays h.state (said level text (held_opened h)).state
 said_stays level text h =
-    then_stays h.state (opened h).state (said level text (opened h)).state (opened_stays h) (event_stays level text [] (opened h).one.span (opened h).state)
+    then_stays h.state (held_opened h).state (said level text (held_opened h)).state (opened_stays h) (event_stays level text [] (held_opened h).one.span (held_opened h).state)
 
 framed_stays : (line : List ℕ) (h : Held) → Stays h.state (framed line h).state
-framed_stays line h = held_if (is_empty h.one.test) h.state (record h { one = noted line h.one }) h (same h.state) (same h.state)
+framed_stays line h = held_if (is_empty h.one.test) h.state (record h { one = end_noted line h.one }) h (same h.state) (same h.state)
 
-line_stays : (level : Level) (text : List ℕ) (h : Held) → Stays h.state (line_of level text h).state
+line_stays : (level : Level) (text : List ℕ) (h : Held)
+    → Stays h.state (line_reported level text h).state
 line_stays level text h =
     let line = without_line_end text in
-    held_if (is_frame h.one.test line) h.state (framed line h) (said level line (opened h)) (framed_stays line h) (said_stays level line h)
+    held_if (is_frame h.one.test line) h.state (framed line h) (said level line (held_opened h)) (framed_stays line h) (said_stays level line h)
 
-emitted_line_stays : (h : Held) → Stays h.state (line_emitted h).state
+emitted_line_stays : (h : Held) → Stays h.state (part_line_emitted h).state
 emitted_line_stays h = line_stays (level_of_line h.one.is_error) h.one.part (record h { one = record h.one { part = []; is_error = false } })
 
 part_stays : (h : Held) → Stays h.state (part_emitted h).state
-part_stays h = held_if (is_empty h.one.part) h.state h (line_emitted h) (same h.state) (emitted_line_stays h)
+part_stays h = held_if (is_empty h.one.part) h.state h (part_line_emitted h) (same h.state) (emitted_line_stays h)
 
 span_stays : (ending : Ending) (rest : List Field) (span : Option Id) (h : Held) → Stays h.state (span_ended ending rest span h)
 span_stays ending rest (Some id) h =
-    let event = event_stays (level_of ending) (word_of ending) rest (Some id) h.state in
+    let event = event_stays (level_of_ending ending) (ending_word ending) rest (Some id) h.state in
     record { failed = event.failed; named_too = event.named_too }
-span_stays ending rest None h = event_stays (level_of ending) (word_of ending ++ codes " " ++ h.one.name) rest h.one.parent h.state
+span_stays ending rest None h = event_stays (level_of_ending ending) (ending_word ending ++ codes " " ++ h.one.name) rest h.one.parent h.state
 
-finished_stays : (ending : Ending) (elapsed : Option (List ℕ)) (h : Held) → Stays h.state (finished ending elapsed h)
+finished_stays : (ending : Ending) (elapsed : Option (List ℕ)) (h : Held) → Stays h.state (held_finished ending elapsed h)
 finished_stays ending elapsed h =
     let last = part_emitted h in
-    let rest = end_fields elapsed last.one in
+    let rest = test_end_fields elapsed last.one in
     then_stays h.state last.state (span_ended ending rest last.one.span last) (part_stays h) (span_stays ending rest last.one.span last)
 
 -- ---- what runs
@@ -255,8 +256,8 @@ finished_stays ending elapsed h =
 without_stays : (path : List ℕ) (s : GoState) → Stays s (without_package path s)
 without_stays path s = record { failed = λ w. refl; named_too = λ w. all_without path s.packages w }
 
-held_stays : (path test : List ℕ) (s : GoState) → Stays s (held path test s).state
-unfolding held
+held_stays : (path test : List ℕ) (s : GoState) → Stays s (held_test path test s).state
+unfolding held_test
 held_stays path test s =
     let tests : Tests = tests_of path s in
     let name : List ℕ = owner tests test in
@@ -265,8 +266,8 @@ held_stays path test s =
       named_too = λ w. all_put path (without name tests) (without path s.packages) (named_without name tests (all_found path s.packages w)) (all_without path s.packages w);
     }
 
-kept_stays : (h : Held) → Stays h.state (kept h)
-unfolding kept
+kept_stays : (h : Held) → Stays h.state (test_kept h)
+unfolding test_kept
 kept_stays h =
     let tests : Tests = tests_of h.one.path h.state in
     record {
@@ -282,13 +283,13 @@ one_more_counts n = grind (arith, nat_tests)
 
 failed_test : (path test : List ℕ) (s : GoState) → Goes true s (failed_counted path test s)
 failed_test path test s = record {
-  failed = λ w. ap (λ b. b || not (s.tally.packages_failed == 0)) (one_more_counts s.tally.failed) ∙ sym (or_true (has_failed s));
+  failed = λ w. ap (λ b. b || not (s.tally.packages_failed == 0)) (one_more_counts s.tally.failed) ∙ sym (or_true (any_failed s));
   named_too = λ w. w;
 }
 
 failed_package : (path : List ℕ) (s : GoState) → Goes true s (package_failed path (one_ended s))
 failed_package path s = record {
-  failed = λ w. ap (λ b. not (s.tally.failed == 0) || b) (one_more_counts s.tally.packages_failed) ∙ or_true (not (s.tally.failed == 0)) ∙ sym (or_true (has_failed s));
+  failed = λ w. ap (λ b. not (s.tally.failed == 0) || b) (one_more_counts s.tally.packages_failed) ∙ or_true (not (s.tally.failed == 0)) ∙ sym (or_true (any_failed s));
   named_too = λ w. w;
 }
 
@@ -299,7 +300,7 @@ is_calm Failed = false
 is_calm Skipped = true
 is_calm Unfinished = true
 
-calm_stays : (ending : Ending) (path test : List ℕ) (s : GoState) → is_calm ending ≡ true → Stays s (counted ending path test s)
+calm_stays : (ending : Ending) (path test : List ℕ) (s : GoState) → is_calm ending ≡ true → Stays s (end_counted ending path test s)
 unfolding is_calm
 calm_stays Passed path test s e = record { failed = λ w. refl; named_too = λ w. w }
 calm_stays Failed path test s e = cc
@@ -316,7 +317,8 @@ calm_left Unfinished = refl
 -- ---- what is left
 
 noted_by : (b : Bool) (ending : Ending) (one : Running) (s : GoState) → b ≡ false → is_calm ending ≡ true →
-    Stays s (if b then package_counted ending one.path s else counted ending one.path one.test s)
+    Stays s (if b then package_counted ending one.path s
+    else end_counted ending one.path one.test s)
 noted_by true ending one s e calm = cc
 noted_by false ending one s e calm = calm_stays ending one.path one.test s calm
 
@@ -324,16 +326,16 @@ noted_by false ending one s e calm = calm_stays ending one.path one.test s calm
 left_stays : (ending : Ending) (one : Running) (s : GoState) → is_empty one.test ≡ false → is_calm ending ≡ true → Stays s (left_one ending one s)
 left_stays ending one s full calm =
     let noted_too : GoState = noted_left ending one s in
-    stays_if one.has_begun s (finished ending None (holds one noted_too)) s
-    (then_stays s noted_too (finished ending None (holds one noted_too)) (noted_by (is_empty one.test) ending one s full calm) (finished_stays ending None (holds one noted_too)))
+    stays_if one.has_begun s (held_finished ending None (holds one noted_too)) s
+    (then_stays s noted_too (held_finished ending None (holds one noted_too)) (noted_by (is_empty one.test) ending one s full calm) (finished_stays ending None (holds one noted_too)))
     (same s)
 
 left_over_stays : (ending : Ending) (root : Option Id) (earlier tests : Tests) (s : GoState) → AreFull tests → is_calm ending ≡ true → Stays s (left_over ending root earlier tests s)
 left_over_stays ending root earlier [] s h calm = same s
 left_over_stays ending root earlier (test ∷ later) s h calm =
     let rest : GoState = left_over ending root (earlier ++ test ∷ []) later s in
-    then_stays s rest (left_one ending (placed root earlier test.1) rest) (left_over_stays ending root (earlier ++ test ∷ []) later s h.2 calm)
-    (left_stays ending (placed root earlier test.1) rest h.1 calm)
+    then_stays s rest (left_one ending (test_placed root earlier test.1) rest) (left_over_stays ending root (earlier ++ test ∷ []) later s h.2 calm)
+    (left_stays ending (test_placed root earlier test.1) rest h.1 calm)
 
 all_left_stays : (ending : Ending) (path : List ℕ) (s : GoState) → is_calm ending ≡ true → AllNamed s.packages → Stays s (all_left_over ending path s)
 all_left_stays ending path s calm w =
@@ -347,26 +349,26 @@ package_stays ending path elapsed s =
     let counted_too : GoState = package_counted ending path s in
     let last : Held = holds (running_as path [] (tests_of path counted_too)) (all_left_over (left_as ending) path counted_too) in
     record {
-      failed = λ w. (then_stays counted_too last.state (finished ending elapsed last) (all_left_stays (left_as ending) path counted_too (calm_left ending) w) (finished_stays ending elapsed last)).failed w;
-      named_too = λ w. (then_stays counted_too last.state (finished ending elapsed last) (all_left_stays (left_as ending) path counted_too (calm_left ending) w) (finished_stays ending elapsed last)).named_too w;
+      failed = λ w. (then_stays counted_too last.state (held_finished ending elapsed last) (all_left_stays (left_as ending) path counted_too (calm_left ending) w) (finished_stays ending elapsed last)).failed w;
+      named_too = λ w. (then_stays counted_too last.state (held_finished ending elapsed last) (all_left_stays (left_as ending) path counted_too (calm_left ending) w) (finished_stays ending elapsed last)).named_too w;
     }
 
 test_stays : (ending : Ending) (test : List ℕ) (elapsed : Option (List ℕ)) (h : Held) → Stays h.state (test_ended ending test elapsed h)
 test_stays ending test elapsed h =
-    let parent : Held = opened h in
+    let parent : Held = held_opened h in
     let name : List ℕ = own_name parent.one.test test in
     let quiet : Held = record parent { state = quiet_emitted ending name (elapsed_fields elapsed) parent.one.span parent.state } in
-    stays_if (bytes_eq h.one.test test) h.state (finished ending elapsed h) (kept quiet) (finished_stays ending elapsed h)
-    (then_stays h.state quiet.state (kept quiet)
-    (then_stays h.state parent.state quiet.state (opened_stays h) (event_stays (level_of ending) (word_of ending ++ codes " " ++ name) (elapsed_fields elapsed) parent.one.span parent.state))
+    stays_if (bytes_eq h.one.test test) h.state (held_finished ending elapsed h) (test_kept quiet) (finished_stays ending elapsed h)
+    (then_stays h.state quiet.state (test_kept quiet)
+    (then_stays h.state parent.state quiet.state (opened_stays h) (event_stays (level_of_ending ending) (ending_word ending ++ codes " " ++ name) (elapsed_fields elapsed) parent.one.span parent.state))
     (kept_stays quiet))
 
 -- an end fails something exactly if it is counted as a failure
-ended_as : (f : Bool) (ending : Ending) (path test : List ℕ) (elapsed : Option (List ℕ)) (s : GoState) → Goes f s (counted ending path test s) → ((t : GoState) → Goes f t (package_counted ending path t)) →
-    Goes f s (ended ending path test elapsed s)
+ended_as : (f : Bool) (ending : Ending) (path test : List ℕ) (elapsed : Option (List ℕ)) (s : GoState) → Goes f s (end_counted ending path test s) → ((t : GoState) → Goes f t (package_counted ending path t)) →
+    Goes f s (test_or_package_ended ending path test elapsed s)
 ended_as f ending path test elapsed s of_test of_package =
-    let at : GoState = counted ending path test s in
-    let h : Held = held path test at in
+    let at : GoState = end_counted ending path test s in
+    let h : Held = held_test path test at in
     let over : GoState = build_over path s in
     goes_if (is_empty test) f s (package_ended ending path elapsed over) (test_ended ending test elapsed h)
     (stays_goes f s over (package_ended ending path elapsed over) (record { failed = λ w. refl; named_too = λ w. w })
@@ -381,43 +383,43 @@ full_again [] [] h = let e : true ≡ false = h in cc
 full_again [] (y ∷ ys) h = let e : true ≡ false = (rw (full y ys) at h) in cc
 full_again (x ∷ xs) test h = full x xs
 
-above_by : (path test : List ℕ) (s : GoState) (b : Bool) → (is_empty test || not (bytes_eq (held path test s).one.test test)) ≡ b →
-    Stays s (if b then held path test s else held path test (left_one Unfinished (held path test s).one (held path test s).state)).state
+above_by : (path test : List ℕ) (s : GoState) (b : Bool) → (is_empty test || not (bytes_eq (held_test path test s).one.test test)) ≡ b →
+    Stays s (if b then held_test path test s else held_test path test (left_one Unfinished (held_test path test s).one (held_test path test s).state)).state
 unfolding is_calm
 above_by path test s true e = held_stays path test s
 above_by path test s false e =
-    let h : Held = held path test s in
+    let h : Held = held_test path test s in
     let left : GoState = left_one Unfinished h.one h.state in
-    then_stays s left (held path test left).state
+    then_stays s left (held_test path test left).state
     (then_stays s h.state left (held_stays path test s) (left_stays Unfinished h.one h.state (full_again h.one.test test e) refl))
     (held_stays path test left)
 
 above_stays : (path test : List ℕ) (s : GoState) → Stays s (above_held path test s).state
 unfolding above_held
-above_stays path test s = above_by path test s (is_empty test || not (bytes_eq (held path test s).one.test test)) refl
+above_stays path test s = above_by path test s (is_empty test || not (bytes_eq (held_test path test s).one.test test)) refl
 
 started_stays : (path : List ℕ) (s : GoState) → Stays s (package_started path s)
 started_stays path s =
-    let h : Held = started (held path [] s) in
-    then_stays s h.state (kept h) (held_stays path [] s) (kept_stays h)
+    let h : Held = started (held_test path [] s) in
+    then_stays s h.state (test_kept h) (held_stays path [] s) (kept_stays h)
 
 begun_stays : (path test : List ℕ) (h : Held) → Stays h.state (begun_in path test h)
 begun_stays path test h =
-    stays_if (is_empty test) h.state (kept h) (kept (holds (begun path test) (kept h))) (kept_stays h)
-    (then_stays h.state (kept h) (kept (holds (begun path test) (kept h))) (kept_stays h) (kept_stays (holds (begun path test) (kept h))))
+    stays_if (is_empty test) h.state (test_kept h) (test_kept (holds (new_running path test) (test_kept h))) (kept_stays h)
+    (then_stays h.state (test_kept h) (test_kept (holds (new_running path test) (test_kept h))) (kept_stays h) (kept_stays (holds (new_running path test) (test_kept h))))
 
 ran_stays : (path test : List ℕ) (s : GoState) → Stays s (ran path test s)
 ran_stays path test s =
     let h : Held = above_held path test s in
     let last : Held = part_emitted h in
-    then_stays s (opened last).state (ran path test s)
-    (then_stays s last.state (opened last).state (then_stays s h.state last.state (above_stays path test s) (part_stays h)) (opened_stays last))
-    (begun_stays path test (started (opened last)))
+    then_stays s (held_opened last).state (ran path test s)
+    (then_stays s last.state (held_opened last).state (then_stays s h.state last.state (above_stays path test s) (part_stays h)) (opened_stays last))
+    (begun_stays path test (started (held_opened last)))
 
 text_stays : (is_error : Bool) (text : List ℕ) (h : Held) → Stays h.state (text_printed is_error text h).state
 text_stays is_error text h =
     let more : Held = more_printed is_error text h in
-    held_if (ends_line text) h.state (line_emitted more) more (emitted_line_stays more) (same h.state)
+    held_if (ends_line text) h.state (part_line_emitted more) more (emitted_line_stays more) (same h.state)
 
 string_stays : (kind : Kind) (text : List ℕ) (h : Held) → Stays h.state (string_printed kind text h).state
 string_stays kind text h =
@@ -427,16 +429,16 @@ string_stays kind text h =
 
 printed_stays : (kind : Kind) (path test text : List ℕ) (s : GoState) → Stays s (printed kind path test text s)
 printed_stays kind path test text s =
-    let h : Held = started (held path test s) in
+    let h : Held = started (held_test path test s) in
     let line : Held = string_printed kind text h in
-    then_stays s h.state (kept line) (held_stays path test s) (then_stays h.state line.state (kept line) (string_stays kind text h) (kept_stays line))
+    then_stays s h.state (test_kept line) (held_stays path test s) (then_stays h.state line.state (test_kept line) (string_stays kind text h) (kept_stays line))
 
 -- ---- builds
 
 build_said_stays : (level : Level) (text : List ℕ) (h : Held) → Stays h.state (build_said level text h).state
 build_said_stays level text h =
     let line = without_line_end (without_heading text) in
-    held_if (is_skipped line) h.state h (said (level_of_build level line) line (opened h)) (same h.state) (said_stays (level_of_build level line) line h)
+    held_if (is_skipped line) h.state h (said (level_of_build level line) line (held_opened h)) (same h.state) (said_stays (level_of_build level line) line h)
 
 builds_said_stay : (level : Level) (texts : List (List ℕ)) (h : Held) → Stays h.state (builds_said level texts h).state
 builds_said_stay level [] h = same h.state
@@ -446,9 +448,9 @@ builds_said_stay level (text ∷ later) h =
 
 texts_stay : (level : Level) (build : Build) (s : GoState) → Stays s (texts_emitted level build s)
 texts_stay level build s =
-    let h : Held = held build.path [] s in
+    let h : Held = held_test build.path [] s in
     let all : Held = builds_said level build.texts h in
-    then_stays s h.state (kept all) (held_stays build.path [] s) (then_stays h.state all.state (kept all) (builds_said_stay level build.texts h) (kept_stays all))
+    then_stays s h.state (test_kept all) (held_stays build.path [] s) (then_stays h.state all.state (test_kept all) (builds_said_stay level build.texts h) (kept_stays all))
 
 build_by : (level : Level) (build : Option Build) (s : GoState) → Stays s (emitted_of_build level build s)
 build_by level None s = same s
@@ -464,7 +466,7 @@ closed_stays (Some id) h = record { failed = λ w. refl; named_too = λ w. w }
 
 last_stays : (build : Build) (s : GoState) → Stays s (build_last build s)
 last_stays build s =
-    let h : Held = holds (begun build.path []) s in
+    let h : Held = holds (new_running build.path []) s in
     let all : Held = builds_said Warn build.texts h in
     then_stays s all.state (build_last build s) (builds_said_stay Warn build.texts h) (closed_stays all.one.span all)
 
@@ -478,12 +480,13 @@ builds_stay (one ∷ others) s =
 
 plain_stays : (line : List ℕ) (s : GoState) → Stays s (takes_plain line s)
 plain_stays line s =
-    let h : Held = held s.building [] s in
-    let event : Held = said Error line (opened h) in
-    stays_if (is_package_frame line) s s (if is_aside line s then event_emitted (level_of_text line) line [] s.last s else kept event) (same s)
-    (stays_if (is_aside line s) s (event_emitted (level_of_text line) line [] s.last s) (kept event) (event_stays (level_of_text line) line [] s.last s)
-    (then_stays s h.state (kept event) (held_stays s.building [] s)
-    (then_stays h.state event.state (kept event) (said_stays Error line h) (kept_stays event))))
+    let h : Held = held_test s.building [] s in
+    let event : Held = said Error line (held_opened h) in
+    stays_if (is_package_frame line) s s (if is_aside line s then text_event_emitted (level_of_text line) line [] s.last s else test_kept event) (same s)
+    (stays_if (is_aside line s) s (text_event_emitted (level_of_text line) line [] s.last s) (test_kept event) (event_stays (level_of_text line) line [] s.last s)
+    (then_stays s h.state (test_kept event) (held_stays s.building [] s)
+    (then_stays h.state event.state (test_kept event) (said_stays Error line h)
+    (kept_stays event))))
 
 failure_by : (b : Bool) (rest line : List ℕ) (s : GoState) → Goes b s (takes_failure (if b then Some rest else None) line s)
 failure_by true rest line s =
@@ -513,7 +516,7 @@ unless_blank : (b f : Bool) (s t : GoState) → Goes f s t → Goes (if b then f
 unless_blank true f s t h = goes_of s s (same s)
 unless_blank false f s t h = h
 
-text_goes : (line : List ℕ) (s : GoState) → Goes (is_failure line None) s (takes_text line s)
+text_goes : (line : List ℕ) (s : GoState) → Goes (reports_failure line None) s (takes_text line s)
 text_goes line s =
     unless_blank (is_skipped line) (begins (codes "FAIL\t") line) s (takes_heading (after_mark (codes "# ") line) line s)
     (heading_by (begins (codes "# ") line) (drop (length (codes "# ")) line) line s refl)
@@ -563,15 +566,16 @@ moved_goes : (action path test : List ℕ) (elapsed : Option (List ℕ)) (s : Go
 moved_goes action path test elapsed s =
     let f : Bool = bytes_eq action (codes "fail") in
     goes_choice (bytes_eq action (codes "run")) f s (ran path test s) _ (λ is. as_false f s (ran path test s) (not_fail action (codes "run") is refl) (ran_stays path test s))
-    (λ _. goes_choice (bytes_eq action (codes "pass") || bytes_eq action (codes "bench")) f s (ended Passed path test elapsed s) _
+    (λ _. goes_choice (bytes_eq action (codes "pass") || bytes_eq action (codes "bench")) f s (test_or_package_ended Passed path test elapsed s) _
     (λ is. let no : f ≡ false = neither_fail action (codes "pass") (codes "bench") is refl refl in
-    ended_as f Passed path test elapsed s (as_false f s (counted Passed path test s) no (record { failed = λ w. refl; named_too = λ w. w }))
+    ended_as f Passed path test elapsed s (as_false f s (end_counted Passed path test s) no (record { failed = λ w. refl; named_too = λ w. w }))
     (λ t. as_false f t (one_ended t) no (record { failed = λ w. refl; named_too = λ w. w })))
-    (λ _. goes_choice f f s (ended Failed path test elapsed s) _
+    (λ _. goes_choice f f s (test_or_package_ended Failed path test elapsed s) _
     (λ is. ended_as f Failed path test elapsed s (as_true f s (failed_counted path test s) is (failed_test path test s))
     (λ t. as_true f t (package_failed path (one_ended t)) is (failed_package path t)))
-    (λ none. goes_choice (bytes_eq action (codes "skip")) f s (ended Skipped path test elapsed s) _
-    (λ _. ended_as f Skipped path test elapsed s (as_false f s (counted Skipped path test s) none (record { failed = λ w. refl; named_too = λ w. w }))
+    (λ none. goes_choice (bytes_eq action (codes "skip")) f s
+    (test_or_package_ended Skipped path test elapsed s) _
+    (λ _. ended_as f Skipped path test elapsed s (as_false f s (end_counted Skipped path test s) none (record { failed = λ w. refl; named_too = λ w. w }))
     (λ t. as_false f t (one_ended t) none (record { failed = λ w. refl; named_too = λ w. w })))
     (λ _. goes_choice (bytes_eq action (codes "start")) f s (package_started path s) s (λ _. as_false f s (package_started path s) none (started_stays path s))
     (λ _. as_false f s s none (same s))))))
@@ -581,7 +585,7 @@ acted_goes action path test value s =
     let f : Bool = bytes_eq action (codes "fail") in
     let built : GoState = build_emitted Warn path s in
     goes_by (bytes_eq action (codes "build-output")) f s _ _ (λ is. build_printed_goes f path (text_at (codes "Output") value) s (not_fail action (codes "build-output") is refl))
-    (λ _. goes_by (bytes_eq action (codes "output")) f s _ _ (λ is. printed_if_goes f (kind_in value) path test (text_at (codes "Output") value) s (not_fail action (codes "output") is refl))
+    (λ _. goes_by (bytes_eq action (codes "output")) f s _ _ (λ is. printed_if_goes f (output_kind value) path test (text_at (codes "Output") value) s (not_fail action (codes "output") is refl))
     (λ _. goes_by (bytes_eq action (codes "build-fail")) f s _ _ (λ is. as_false f s (build_emitted Error path s) (not_fail action (codes "build-fail") is refl) (build_stays Error path s))
     (λ _. stays_goes f s built (moved action path test (elapsed_in value) built) (build_stays Warn path s) (moved_goes action path test (elapsed_in value) built))))
 
@@ -596,13 +600,13 @@ handed_goes b s at (Some t) h k =
     let all = stays_goes b s at t h k in
     record { failed = all.failed; named_too = all.named_too }
 
-step_goes : (line : List ℕ) (value : Option Json) (s : GoState) → Goes (is_failure line value) s (interpreted_step s (go_takes s line value)).source
+step_goes : (line : List ℕ) (value : Option Json) (s : GoState) → Goes (reports_failure line value) s (interpreted_step s (go_takes s line value)).source
 step_goes line None s =
     let all = text_goes line s in
     record { failed = all.failed; named_too = all.named_too }
 step_goes line (Some value) s =
-    handed_goes (is_fail (text_at (codes "Action") value) (package_of value)) s (timed value s) (takes_json value (timed value s))
-    (record { failed = λ w. refl; named_too = λ w. w }) (json_goes (text_at (codes "Action") value) (package_of value) value (timed value s))
+    handed_goes (is_fail (text_at (codes "Action") value) (package_of value)) s (at_action_time value s) (takes_json value (at_action_time value s))
+    (record { failed = λ w. refl; named_too = λ w. w }) (json_goes (text_at (codes "Action") value) (package_of value) value (at_action_time value s))
 
 interpreted_if : (b f g : Bool) (s : GoState) (h k : Interpreted GoState) → Goes f s h.source → Goes g s k.source → Goes (if b then f else g) s (if b then h else k).source
 interpreted_if true f g s h k i j = i
@@ -610,7 +614,7 @@ interpreted_if false f g s h k i j = j
 
 line_goes : (line : List ℕ) (s : GoState) → Goes (emits_failure line) s (interpret_line go_takes s line).source
 line_goes line s =
-    interpreted_if (is_utf8 line) (is_failure line (document line)) false s (interpreted_step s (go_takes s line (document line))) (interpreted_step s None) (step_goes line (document line) s) (goes_of s s (same s))
+    interpreted_if (is_utf8 line) (reports_failure line (document line)) false s (interpreted_step s (go_takes s line (document line))) (interpreted_step s None) (step_goes line (document line) s) (goes_of s s (same s))
 
 lines_go : (lines : List (List ℕ)) (s : GoState) → Goes (list_any emits_failure lines) s (interpret go_takes s lines).source
 lines_go [] s = goes_of s s (same s)
@@ -620,15 +624,16 @@ lines_go (line ∷ lines) s =
 
 -- ---- the end
 
-unfinished_by : (b : Bool) (one : Running) (s : GoState) → b ≡ true → Goes true s (if b then package_counted Unfinished one.path s else counted Unfinished one.path one.test s)
+unfinished_by : (b : Bool) (one : Running) (s : GoState) → b ≡ true → Goes true s (if b then package_counted Unfinished one.path s else end_counted Unfinished one.path one.test s)
 unfinished_by true one s e = failed_package one.path s
 unfinished_by false one s e = cc
 
 left_by : (b : Bool) (one : Running) (s : GoState) → is_empty one.test ≡ true →
-    Goes b s (if b then finished Unfinished None (holds one (noted_left Unfinished one s)) else s)
+    Goes b s (if b then held_finished Unfinished None
+    (holds one (noted_left Unfinished one s)) else s)
 left_by true one s e =
     let noted_too : GoState = noted_left Unfinished one s in
-    goes_stays true s noted_too (finished Unfinished None (holds one noted_too)) (unfinished_by (is_empty one.test) one s e) (finished_stays Unfinished None (holds one noted_too))
+    goes_stays true s noted_too (held_finished Unfinished None (holds one noted_too)) (unfinished_by (is_empty one.test) one s e) (finished_stays Unfinished None (holds one noted_too))
 left_by false one s e = goes_of s s (same s)
 
 over_by : (b : Bool) (own : Running) (s : GoState) → own.has_begun ≡ b → is_empty own.test ≡ true →
@@ -653,7 +658,7 @@ packages_go ((path, tests) ∷ others) s h =
 
 -- tests have failed exactly if a line reports a failure, or a package still ran
 pub some_failed_after : (next : ℕ) (moment : Moment) (lines : List (List ℕ)) →
-    has_failed (all_ended (interpret go_takes (nothing_run next moment) lines).source) ≡ some_failed lines (interpret go_takes (nothing_run next moment) lines).source
+    any_failed (all_ended (interpret go_takes (nothing_run next moment) lines).source) ≡ some_failed lines (interpret go_takes (nothing_run next moment) lines).source
 some_failed_after next moment lines =
     let interpreted = lines_go lines (nothing_run next moment) in
     let s : GoState = (interpret go_takes (nothing_run next moment) lines).source in

@@ -2,7 +2,7 @@
 use Rattle.std.proofs.Common.{◌≡◌, ℕ, List, true, false, None, Some, [], ◌∷◌, codes, refl}
 use Rattle.json.specs.Json.{string, object, member, no_members}
 use Rattle.ttree_go_test.specs.Failed.{FailedState, Pending, forgotten, is_inner, is_over, none_failed, outermost, released, verdict_of}
-use Rattle.ttree_go_test.specs.GoTest.{GoState, Tests, above_held, all_ended, begun, build_printed, build_emitted, built_after, ended, failed_counted, go_problem, held, kept, kind_named, left_as, left_over, level_of_build, level_of_text, more_names, no_counts, nothing_run, owner, package_counted, package_ended, package_started, placed, printed, ran, takes_text, without_heading}
+use Rattle.ttree_go_test.specs.GoTest.{GoState, Tests, above_held, all_ended, new_running, build_printed, build_emitted, built_after, test_or_package_ended, failed_counted, go_problem, held_test, test_kept, kind_named, left_as, left_over, level_of_build, level_of_text, more_names, no_counts, nothing_run, owner, package_counted, package_ended, package_started, test_placed, printed, ran, takes_text, without_heading}
 use Rattle.ttree_go_test.specs.Texts.{coverage_in, is_cached, is_frame, is_frame_line, own_name, up_to_space}
 use Rattle.ttree_go_test.specs.declared.go_test.running.Kind.TheVariants.{Plain, Frame, Failure}
 use Rattle.ttree_go_test.specs.declared.go_test.tally.Ending.TheVariants.{Passed, Failed, Unfinished}
@@ -86,7 +86,7 @@ an_action_without_a_package = refl
 
 module _ (moment : Moment) where
   abbrev two_that_run : Tests
-  two_that_run = (codes "TestA", begun (codes "p") (codes "TestA")) ∷ (codes "TestA/b", begun (codes "p") (codes "TestA/b")) ∷ []
+  two_that_run = (codes "TestA", new_running (codes "p") (codes "TestA")) ∷ (codes "TestA/b", new_running (codes "p") (codes "TestA/b")) ∷ []
 
   pub the_longest_beginning_that_runs : owner two_that_run (codes "TestA/b/c") ≡ codes "TestA/b"
   the_longest_beginning_that_runs = refl
@@ -103,12 +103,12 @@ module _ (moment : Moment) where
   what_stands_in_a_test_ends_first = refl
 
   abbrev one_with_a_span : Tests
-  one_with_a_span = (codes "TestA", record (begun (codes "p") (codes "TestA")) { span = Some (id_of 7) }) ∷ []
+  one_with_a_span = (codes "TestA", record (new_running (codes "p") (codes "TestA")) { span = Some (id_of 7) }) ∷ []
 
-  pub a_test_stands_in_the_longest_beginning_with_a_span : (placed (Some (id_of 3)) one_with_a_span (begun (codes "p") (codes "TestA/b/c"))).parent ≡ Some (id_of 7)
+  pub a_test_stands_in_the_longest_beginning_with_a_span : (test_placed (Some (id_of 3)) one_with_a_span (new_running (codes "p") (codes "TestA/b/c"))).parent ≡ Some (id_of 7)
   a_test_stands_in_the_longest_beginning_with_a_span = refl
 
-  pub once_that_ended_it_stands_in_the_package : (placed (Some (id_of 3)) [] (begun (codes "p") (codes "TestA/b/c"))).parent ≡ Some (id_of 3)
+  pub once_that_ended_it_stands_in_the_package : (test_placed (Some (id_of 3)) [] (new_running (codes "p") (codes "TestA/b/c"))).parent ≡ Some (id_of 3)
   once_that_ended_it_stands_in_the_package = refl
 
   pub a_benchmark_without_an_end_has_passed : (left_over (left_as Passed) None [] two_that_run (nothing_run 1 moment)).tally
@@ -132,18 +132,18 @@ module _ (moment : Moment) where
   pub a_frame_ends_the_line_before_it : (printed Plain (codes "p") (codes "T") (codes "--- PASS: T (0.00s)\n") half_a_line).calls
       ≡ span_call moment (codes "p") [] None ∷ span_call moment (codes "T") [] (Some (id_of 1))
       ∷ event_call moment Info (message_field (codes "x") ∷ []) (Some (id_of 2)) ∷ []
-  unfolding above_held held kept is_frame coverage_in
+  unfolding above_held held_test test_kept is_frame coverage_in
   a_frame_ends_the_line_before_it = refl
 
   pub so_does_a_test_that_begins_in_it : (ran (codes "p") (codes "T/s") half_a_line).calls
       ≡ span_call moment (codes "p") [] None ∷ span_call moment (codes "T") [] (Some (id_of 1))
       ∷ event_call moment Info (message_field (codes "x") ∷ []) (Some (id_of 2)) ∷ []
-  unfolding above_held held kept is_frame coverage_in
+  unfolding above_held held_test test_kept is_frame coverage_in
   so_does_a_test_that_begins_in_it = refl
 
   pub an_error_is_one : (printed Failure (codes "p") [] (codes "x\n") (nothing_run 1 moment)).calls
       ≡ span_call moment (codes "p") [] None ∷ event_call moment Error (message_field (codes "x") ∷ []) (Some (id_of 1)) ∷ []
-  unfolding held kept is_frame coverage_in
+  unfolding held_test test_kept is_frame coverage_in
   an_error_is_one = refl
 
   abbrev built : GoState
@@ -152,37 +152,37 @@ module _ (moment : Moment) where
   pub a_build_is_emitted_when_it_is_known_whether_it_fails : (built.calls ≡ [])
       × ((build_emitted Error (codes "p") built).calls
       ≡ span_call moment (codes "p") [] None ∷ event_call moment Error (message_field (codes "x") ∷ []) (Some (id_of 1)) ∷ [])
-  unfolding held kept
+  unfolding held_test test_kept
   a_build_is_emitted_when_it_is_known_whether_it_fails = (refl, refl)
 
   pub a_line_that_isnt_json_is_emitted_in_the_last_span : (takes_text (codes "note") (ran (codes "p") [] (nothing_run 1 moment))).calls
       ≡ span_call moment (codes "p") [] None ∷ event_call moment Info (message_field (codes "note") ∷ []) (Some (id_of 1)) ∷ []
-  unfolding above_held held kept
+  unfolding above_held held_test test_kept
   a_line_that_isnt_json_is_emitted_in_the_last_span = refl
 
   -- a build that fails, and what is printed after its package's end
   abbrev failed_build : GoState
   failed_build = takes_text (codes "bad") (takes_text (codes "# p") (nothing_run 1 moment))
 
-  pub after_its_package_a_line_is_no_builds : (takes_text (codes "make: x") (ended Failed (codes "p") [] None failed_build)).calls
+  pub after_its_package_a_line_is_no_builds : (takes_text (codes "make: x") (test_or_package_ended Failed (codes "p") [] None failed_build)).calls
       ≡ span_call moment (codes "p") [] None ∷ event_call moment Error (message_field (codes "bad") ∷ []) (Some (id_of 1))
       ∷ event_call moment Error (message_field (codes "fail") ∷ []) (Some (id_of 1)) ∷ close_call moment (id_of 1) None
       ∷ event_call moment Info (message_field (codes "make: x") ∷ []) None ∷ []
-  unfolding held kept package_ended
+  unfolding held_test test_kept package_ended
   after_its_package_a_line_is_no_builds = refl
 
-  pub of_another_package_they_go_on : (ended Failed (codes "q") [] None failed_build).building ≡ codes "p"
-  unfolding held kept package_ended
+  pub of_another_package_they_go_on : (test_or_package_ended Failed (codes "q") [] None failed_build).building ≡ codes "p"
+  unfolding held_test test_kept package_ended
   of_another_package_they_go_on = refl
 
   pub a_package_that_started_and_has_no_end : (all_ended (package_started (codes "p") (nothing_run 1 moment))).calls
       ≡ event_call moment Error (message_field (codes "unfinished p") ∷ []) None ∷ []
-  unfolding held kept
+  unfolding held_test test_kept
   a_package_that_started_and_has_no_end = refl
 
   pub has_failed_and_is_counted : (all_ended (package_started (codes "p") (nothing_run 1 moment))).tally
       ≡ record no_counts { packages = 1; packages_failed = 1 }
-  unfolding held kept
+  unfolding held_test test_kept
   has_failed_and_is_counted = refl
 
   pub a_build_without_its_package_closes : (all_ended built).calls
@@ -191,14 +191,14 @@ module _ (moment : Moment) where
 
   pub so_does_one_among_other_lines : (all_ended failed_build).calls
       ≡ span_call moment (codes "p") [] None ∷ event_call moment Error (message_field (codes "bad") ∷ []) (Some (id_of 1)) ∷ close_call moment (id_of 1) None ∷ []
-  unfolding held kept
+  unfolding held_test test_kept
   so_does_one_among_other_lines = refl
 
   abbrev run_twice : GoState
   run_twice = ran (codes "p") (codes "TestA") (ran (codes "p") (codes "TestA") (nothing_run 1 moment))
 
   pub a_test_that_runs_again_ends_first : run_twice.tally.unfinished ≡ 1
-  unfolding above_held held kept
+  unfolding above_held held_test test_kept
   a_test_that_runs_again_ends_first = refl
 
 -- ---- what failed

@@ -4,7 +4,7 @@ use Rattle.tracing_tree_base.specs.declared.context.Id.{Id}
 use Rattle.tracing_tree_layer.specs.declared.call.Call.{Call}
 use Rattle.tracing_tree_layer.specs.declared.call.Call.TheVariants.{New, Clone, Record, Event, Close}
 use Rattle.ttree_source.specs.Marks.{is_empty}
-use Rattle.ttree_go_test.specs.GoTest.{Tests, span_in}
+use Rattle.ttree_go_test.specs.GoTest.{Tests, span_of_test}
 use Rattle.ttree_go_test.specs.Nesting.{IsIn}
 
 -- the actions that end a test or a package
@@ -14,13 +14,13 @@ is_end action =
     || (bytes_eq action (codes "fail") || bytes_eq action (codes "skip"))
 
 -- the spans that calls close, in order
-abbrev pub closed : List Call → List Id
-closed [] = []
-closed (New attributes context ∷ calls) = closed calls
-closed (Clone id ∷ calls) = closed calls
-closed (Record id fields ∷ calls) = closed calls
-closed (Event event context ∷ calls) = closed calls
-closed (Close id context ∷ calls) = id ∷ closed calls
+abbrev pub spans_closed : List Call → List Id
+spans_closed [] = []
+spans_closed (New attributes context ∷ calls) = spans_closed calls
+spans_closed (Clone id ∷ calls) = spans_closed calls
+spans_closed (Record id fields ∷ calls) = spans_closed calls
+spans_closed (Event event context ∷ calls) = spans_closed calls
+spans_closed (Close id context ∷ calls) = id ∷ spans_closed calls
 
 -- a span is below another of its package: below that of the package, whose name is empty, or below
 -- that of a test in which it is nested
@@ -49,7 +49,7 @@ IsAmong span (e ∷ es) = (e ≡ span) ⊎ IsAmong span es
 -- Calls close the spans of these tests, and each after the spans below it.
 pub record ClosesAll (tests : Tests) (calls : List Call) : Type 0 where
   pub spans : List NamedSpan
-  pub closes : closed calls ≡ map (λ e. e.1) spans
+  pub closes : spans_closed calls ≡ map (λ e. e.1) spans
   pub inner_first : InnerFirst spans
-  pub all : (name : List ℕ) (id : Id) → span_in tests name ≡ Some id →
+  pub all : (name : List ℕ) (id : Id) → span_of_test tests name ≡ Some id →
       IsAmong (name, id) spans

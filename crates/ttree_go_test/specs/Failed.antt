@@ -5,7 +5,7 @@ use Rattle.json.specs.Json.{Json, document}
 use Rattle.tracing_tree_base.specs.declared.context.Moment.{Moment}
 use Rattle.tracing_tree_layer.specs.declared.call.Call.{Call}
 use Rattle.ttree_source.specs.Source.{Step}
-use Rattle.ttree_go_test.specs.GoTest.{GoState, all_ended, go_ended, go_takes, nothing_run, package_of, runs, takes_json, takes_text, tally_call, test_of, timed}
+use Rattle.ttree_go_test.specs.GoTest.{GoState, all_ended, at_action_time, go_ended, go_takes, nothing_run, package_of, runs, takes_json, takes_text, tally_call, test_of}
 use Rattle.ttree_go_test.specs.Names.{named, put, without}
 use Rattle.ttree_source.specs.Values.{text_at}
 use Rattle.ttree_go_test.specs.declared.failed.HeldLine.{HeldLine}
@@ -83,7 +83,7 @@ is_over kept test = someone_says is_good kept test && not (someone_says is_bad k
 -- shows a line
 abbrev pub line_shown : List ℕ → Option Json → GoState → GoState
 line_shown line None shown = takes_text line shown
-line_shown line (Some value) shown = unwrap_or (takes_json value (timed value shown)) shown
+line_shown line (Some value) shown = unwrap_or (takes_json value (at_action_time value shown)) shown
 
 abbrev pub kept_shown : HeldLine → GoState → GoState
 kept_shown one shown = line_shown one.line (document one.line) shown
@@ -119,8 +119,8 @@ package_released path pending shown =
 -- ---- what is kept
 
 -- adds a line to those of an outermost test, or with an empty name to the package's own
-abbrev pub with_line : List ℕ → HeldLine → Pending → Pending
-with_line test one pending = put test (kept_in test pending ++ one ∷ []) (without test pending)
+abbrev pub with_kept_line : List ℕ → HeldLine → Pending → Pending
+with_kept_line test one pending = put test (kept_in test pending ++ one ∷ []) (without test pending)
 
 -- what is kept of a package
 abbrev pub pending_of : List ℕ → FailedState → Pending
@@ -135,7 +135,7 @@ with_pending path pending s = record s { packages = put path pending s.packages 
 abbrev pub line_kept : List ℕ → List ℕ → Verdict → List ℕ → FailedState → FailedState
 line_kept path test verdict line s =
     with_pending path
-    (with_line (outermost test) (record { test = test; verdict = verdict; line = line })
+    (with_kept_line (outermost test) (record { test = test; verdict = verdict; line = line })
     (pending_of path s)) (without_pending path s)
 
 -- nothing is kept of an outermost test any more, or of a package if the name is empty
@@ -155,8 +155,8 @@ emitted_of path test s =
 
 -- ---- lines
 
-abbrev pub path_of : Json → List ℕ
-path_of value = unwrap_or (package_of value) []
+abbrev pub package_path : Json → List ℕ
+package_path value = unwrap_or (package_of value) []
 
 -- a line that is shown
 abbrev pub value_shown : List ℕ → Json → FailedState → FailedState
@@ -172,12 +172,12 @@ value_taken_of path test verdict line value s =
 
 abbrev pub value_taken : List ℕ → Json → FailedState → FailedState
 value_taken line value s =
-    value_taken_of (path_of value) (test_of value) (verdict_in value) line value s
+    value_taken_of (package_path value) (test_of value) (verdict_in value) line value s
 
 -- a line that isn't JSON is shown at once
-abbrev pub line_taken : List ℕ → Option Json → FailedState → FailedState
-line_taken line None s = record s { shown = line_shown line None s.shown }
-line_taken line (Some value) s = value_taken line value s
+abbrev pub failed_line_taken : List ℕ → Option Json → FailedState → FailedState
+failed_line_taken line None s = record s { shown = line_shown line None s.shown }
+failed_line_taken line (Some value) s = value_taken line value s
 
 -- a known line updates what is known of all lines; an unknown line changes nothing
 abbrev pub Knows : Option (Step GoState) → FailedState → FailedState → Bool → Type 0
@@ -192,7 +192,7 @@ failed_handed_out s = record {
 
 abbrev pub failed_step : List ℕ → Option Json → FailedState → Step GoState → Step FailedState
 failed_step line value s step =
-    failed_handed_out (line_taken line value (record s { whole = step.source }))
+    failed_handed_out (failed_line_taken line value (record s { whole = step.source }))
 
 -- what is shown when a line comes; what is known of all lines says whether it is known
 abbrev pub failed_takes : FailedState → List ℕ → Option Json → Option (Step FailedState)

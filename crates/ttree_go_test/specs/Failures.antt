@@ -18,14 +18,14 @@ is_fail None path = false
 
 -- whether a line reports a failure, by the line and its JSON value, if it has one: a build's line
 -- that isn't JSON does if it begins with `FAIL` and a tab
-abbrev pub is_failure : List ℕ → Option Json → Bool
-is_failure line None = if is_skipped line then false else begins (codes "FAIL\t") line
-is_failure line (Some value) = is_fail (text_at (codes "Action") value) (package_of value)
+abbrev pub reports_failure : List ℕ → Option Json → Bool
+reports_failure line None = if is_skipped line then false else begins (codes "FAIL\t") line
+reports_failure line (Some value) = is_fail (text_at (codes "Action") value) (package_of value)
 
 -- a line reports that a test or a package failed
 abbrev pub emits_failure : List ℕ → Bool
 emits_failure line =
-    if is_utf8 line then is_failure line (document line) else false
+    if is_utf8 line then reports_failure line (document line) else false
 
 abbrev pub has_begun : Option Running → Bool
 has_begun (Some one) = one.has_begun

@@ -23,7 +23,7 @@ use Rattle.ttree_source.specs.Values.{text_at}
 use Rattle.ttree_source.specs.declared.notes.Problem.{Problem}
 use Rattle.ttree_source.specs.declared.notes.Problem.TheVariants.{Object, Action, Package, Output}
 use Rattle.ttree_source.specs.Moments.{moment_after}
-use Rattle.ttree_source.specs.Calls.{close_call, event_call, message_field, shown, span_call}
+use Rattle.ttree_source.specs.Calls.{close_call, event_call, message_field, shown_text, span_call}
 use Rattle.ttree_go_test.specs.declared.go_test.builds.Build.{Build}
 use Rattle.ttree_go_test.specs.declared.go_test.running.Kind.{Kind}
 use Rattle.ttree_go_test.specs.declared.go_test.running.Kind.TheVariants.{Plain, Frame, Failure}
@@ -79,17 +79,17 @@ nothing_run next moment = record {
 
 -- ---- endings
 
-abbrev pub word_of : Ending → List ℕ
-word_of Passed = codes "pass"
-word_of Failed = codes "fail"
-word_of Skipped = codes "skip"
-word_of Unfinished = codes "unfinished"
+abbrev pub ending_word : Ending → List ℕ
+ending_word Passed = codes "pass"
+ending_word Failed = codes "fail"
+ending_word Skipped = codes "skip"
+ending_word Unfinished = codes "unfinished"
 
-abbrev pub level_of : Ending → Level
-level_of Passed = Info
-level_of Failed = Error
-level_of Skipped = Warn
-level_of Unfinished = Error
+abbrev pub level_of_ending : Ending → Level
+level_of_ending Passed = Info
+level_of_ending Failed = Error
+level_of_ending Skipped = Warn
+level_of_ending Unfinished = Error
 
 -- ---- counts
 
@@ -98,8 +98,8 @@ abbrev pub counts_failure : Tally → Bool
 counts_failure tally = not (tally.failed == 0) || not (tally.packages_failed == 0)
 
 -- something has failed
-abbrev pub has_failed : GoState → Bool
-has_failed s = counts_failure s.tally
+abbrev pub any_failed : GoState → Bool
+any_failed s = counts_failure s.tally
 
 -- the names of what failed, after one more: at most ten of them
 abbrev pub more_names : ℕ → List ℕ → List ℕ → List ℕ
@@ -117,13 +117,13 @@ failed_counted path test s = record s {
 }
 
 -- a test that came to this end
-abbrev pub counted : Ending → List ℕ → List ℕ → GoState → GoState
-counted Passed path test s =
+abbrev pub end_counted : Ending → List ℕ → List ℕ → GoState → GoState
+end_counted Passed path test s =
     record s { tally = record s.tally { passed = one_more s.tally.passed } }
-counted Failed path test s = failed_counted path test s
-counted Skipped path test s =
+end_counted Failed path test s = failed_counted path test s
+end_counted Skipped path test s =
     record s { tally = record s.tally { skipped = one_more s.tally.skipped } }
-counted Unfinished path test s =
+end_counted Unfinished path test s =
     record s { tally = record s.tally { unfinished = one_more s.tally.unfinished } }
 
 -- a package that came to an end
@@ -148,14 +148,14 @@ package_counted Unfinished path s = package_failed path (one_ended s)
 -- ---- calls
 
 -- adds a call, after which this is the last span
-abbrev pub emitted : Option Id → Call → GoState → GoState
-emitted last call s = record s { calls = s.calls ++ call ∷ []; last = last }
+abbrev pub emitted_with_last : Option Id → Call → GoState → GoState
+emitted_with_last last call s = record s { calls = s.calls ++ call ∷ []; last = last }
 
 -- an event with these further fields in this span, unless its message is blank
-abbrev pub event_emitted : Level → List ℕ → List Field → Option Id → GoState → GoState
-event_emitted level text rest parent s =
+abbrev pub text_event_emitted : Level → List ℕ → List Field → Option Id → GoState → GoState
+text_event_emitted level text rest parent s =
     if is_skipped text then s
-    else emitted parent (event_call s.moment level (message_field text ∷ rest) parent) s
+    else emitted_with_last parent (event_call s.moment level (message_field text ∷ rest) parent) s
 
 abbrev pub elapsed_fields : Option (List ℕ) → List Field
 elapsed_fields None = []
@@ -168,17 +168,18 @@ cached_fields is_cached = if is_cached then truth_field (codes "cached") true �
 abbrev pub coverage_fields : List ℕ → List Field
 coverage_fields coverage =
     if is_empty coverage then []
-    else record { name = codes "coverage"; value = shown coverage } ∷ []
+    else record { name = codes "coverage"; value = shown_text coverage } ∷ []
 
 -- what the event of its end shows
-abbrev pub end_fields : Option (List ℕ) → Running → List Field
-end_fields elapsed one =
+abbrev pub test_end_fields : Option (List ℕ) → Running → List Field
+test_end_fields elapsed one =
     elapsed_fields elapsed ++ cached_fields one.is_cached ++ coverage_fields one.coverage
 
 -- the end of a test without a span, as an event
 abbrev pub quiet_emitted : Ending → List ℕ → List Field → Option Id → GoState → GoState
 quiet_emitted ending name rest parent s =
-    event_emitted (level_of ending) (word_of ending ++ codes " " ++ name) rest parent s
+    text_event_emitted (level_of_ending ending)
+    (ending_word ending ++ codes " " ++ name) rest parent s
 
 -- the whole name of a test, or the path of a package
 abbrev pub whole_name : Running → List ℕ
@@ -211,8 +212,8 @@ pub record Held : Type 0 where
 abbrev pub holds : Running → GoState → Held
 holds one state = record { one = one; state = state }
 
-unfoldable pub kept : Held → GoState
-kept h =
+unfoldable pub test_kept : Held → GoState
+test_kept h =
     with_package h.one.path (put h.one.test h.one (tests_of h.one.path h.state))
     (without_package h.one.path h.state)
 
@@ -221,70 +222,71 @@ abbrev pub opened_as : Option Id → Held → Held
 opened_as (Some id) h = h
 opened_as None h = record {
   one = record h.one { span = Some (id_of h.state.next) };
-  state = record (emitted (Some (id_of h.state.next))
+  state = record (emitted_with_last (Some (id_of h.state.next))
       (span_call h.state.moment h.one.name [] h.one.parent) h.state)
       { next = one_more h.state.next };
 }
 
-abbrev pub opened : Held → Held
-opened h = opened_as h.one.span h
+abbrev pub held_opened : Held → Held
+held_opened h = opened_as h.one.span h
 
 -- an event in its span
 abbrev pub said : Level → List ℕ → Held → Held
-said level text h = record h { state = event_emitted level text [] h.one.span h.state }
+said level text h = record h { state = text_event_emitted level text [] h.one.span h.state }
 
 -- a line of a package may say how it ended
-abbrev pub noted : List ℕ → Running → Running
-noted line one = record one {
+abbrev pub end_noted : List ℕ → Running → Running
+end_noted line one = record one {
   is_cached = one.is_cached || is_cached line;
   coverage = unwrap_or (coverage_in line) one.coverage;
 }
 
 -- a line that only frames
 abbrev pub framed : List ℕ → Held → Held
-framed line h = if is_empty h.one.test then record h { one = noted line h.one } else h
+framed line h = if is_empty h.one.test then record h { one = end_noted line h.one } else h
 
 -- reports this line of it, unless it only frames
-abbrev pub line_of : Level → List ℕ → Held → Held
-line_of level text h =
+abbrev pub line_reported : Level → List ℕ → Held → Held
+line_reported level text h =
     let line = without_line_end text in
-    if is_frame h.one.test line then framed line h else said level line (opened h)
+    if is_frame h.one.test line then framed line h else said level line (held_opened h)
 
 abbrev pub level_of_line : Bool → Level
 level_of_line is_error = if is_error then Error else Info
 
 -- reports the line that it has printed
-abbrev pub line_emitted : Held → Held
-line_emitted h =
-    line_of (level_of_line h.one.is_error) h.one.part
+abbrev pub part_line_emitted : Held → Held
+part_line_emitted h =
+    line_reported (level_of_line h.one.is_error) h.one.part
     (record h { one = record h.one { part = []; is_error = false } })
 
 abbrev pub part_emitted : Held → Held
-part_emitted h = if is_empty h.one.part then h else line_emitted h
+part_emitted h = if is_empty h.one.part then h else part_line_emitted h
 
 abbrev pub span_ended : Ending → List Field → Option Id → Held → GoState
 span_ended ending rest (Some id) h =
-    emitted h.one.parent (close_call h.state.moment id h.one.parent)
-    (event_emitted (level_of ending) (word_of ending) rest (Some id) h.state)
+    emitted_with_last h.one.parent (close_call h.state.moment id h.one.parent)
+    (text_event_emitted (level_of_ending ending) (ending_word ending) rest (Some id) h.state)
 span_ended ending rest None h = quiet_emitted ending h.one.name rest h.one.parent h.state
 
 -- it runs no longer
-abbrev pub finished : Ending → Option (List ℕ) → Held → GoState
-finished ending elapsed h =
+abbrev pub held_finished : Ending → Option (List ℕ) → Held → GoState
+held_finished ending elapsed h =
     let last = part_emitted h in
-    span_ended ending (end_fields elapsed last.one) last.one.span last
+    span_ended ending (test_end_fields elapsed last.one) last.one.span last
 
 -- its span closes, if it has one, and nothing is reported of an end
 abbrev pub only_closed : Option Id → Held → GoState
 only_closed None h = h.state
-only_closed (Some id) h = emitted h.one.parent (close_call h.state.moment id h.one.parent) h.state
+only_closed (Some id) h =
+    emitted_with_last h.one.parent (close_call h.state.moment id h.one.parent) h.state
 
 -- the whole name of a test, or with an empty name the path of its package
 abbrev pub name_at_first : List ℕ → List ℕ → List ℕ
 name_at_first path test = if is_empty test then path else test
 
-abbrev pub begun : List ℕ → List ℕ → Running
-begun path test = record {
+abbrev pub new_running : List ℕ → List ℕ → Running
+new_running path test = record {
   path = path;
   test = test;
   name = name_at_first path test;
@@ -303,7 +305,7 @@ started h = record h { one = record h.one { has_begun = true } }
 
 -- what runs under this name; an unknown package starts
 abbrev pub running_as : List ℕ → List ℕ → Tests → Running
-running_as path name tests = unwrap_or (named name tests) (begun path [])
+running_as path name tests = unwrap_or (named name tests) (new_running path [])
 
 -- the longest running test among a name's prefixes of at most n bytes that end at a `/` or are the
 -- name; otherwise the empty name, which is the package's
@@ -318,18 +320,18 @@ abbrev pub owner : Tests → List ℕ → List ℕ
 owner tests test = owner_within tests test (length test)
 
 -- its span, if it runs and has one
-abbrev pub span_in : Tests → List ℕ → Option Id
-span_in tests name = option_and_then (λ (one : Running). one.span) (named name tests)
+abbrev pub span_of_test : Tests → List ℕ → Option Id
+span_of_test tests name = option_and_then (λ (one : Running). one.span) (named name tests)
 
 -- what has a span
-abbrev pub with_span : Option Running → Option Running
-with_span (Some one) = if is_some one.span then Some one else None
-with_span None = None
+abbrev pub if_has_span : Option Running → Option Running
+if_has_span (Some one) = if is_some one.span then Some one else None
+if_has_span None = None
 
 -- what runs under the name's prefix of n bytes that ends at a `/`, if it has a span
 abbrev pub shown_at : Tests → List ℕ → ℕ → Option Running
 shown_at tests test n =
-    if ends_word 47 (drop n test) then with_span (named (take n test) tests) else None
+    if ends_word 47 (drop n test) then if_has_span (named (take n test) tests) else None
 
 -- of the name's prefixes of at most n bytes, the longest that runs and has a span
 abbrev pub outer_within : Tests → List ℕ → ℕ → Option Running
@@ -341,9 +343,9 @@ outer_within tests test (suc n) =
       found_or None shorter = shorter
 
 -- the span of the test that it is nested in, or the package's
-abbrev pub span_of : Option Id → Option Running → Option Id
-span_of root (Some outer) = outer.span
-span_of root None = root
+abbrev pub outer_span : Option Id → Option Running → Option Id
+outer_span root (Some outer) = outer.span
+outer_span root None = root
 
 -- its name as shown in that test, or in the package
 abbrev pub shown_name : Option Running → Running → List ℕ
@@ -354,57 +356,57 @@ shown_name None one = whole_name one
 -- in which its span opened.
 abbrev pub placed_in : Option Id → Option Running → Running → Running
 placed_in root outer one = record one {
-  parent = span_of root outer;
+  parent = outer_span root outer;
   name = if is_some one.span then one.name else shown_name outer one;
 }
 
 -- It is nested in the test with the longest prefix of its name that still runs and has a span,
 -- otherwise in the package: its first parent may have ended.
-abbrev pub placed : Option Id → Tests → Running → Running
-placed root others one =
+abbrev pub test_placed : Option Id → Tests → Running → Running
+test_placed root others one =
     placed_in root (outer_within others one.test (length one.test)) one
 
 -- removes what runs under the longest prefix of a name
-unfoldable pub held : List ℕ → List ℕ → GoState → Held
-held path test s =
+unfoldable pub held_test : List ℕ → List ℕ → GoState → Held
+held_test path test s =
     let tests : Tests = tests_of path s in
     let name : List ℕ = owner tests test in
     let others : Tests = without name tests in
-    holds (placed (span_in others []) others (running_as path name tests))
+    holds (test_placed (span_of_test others []) others (running_as path name tests))
     (with_package path others (without_package path s))
 
 -- a test or package without a reported end is counted
 abbrev pub noted_left : Ending → Running → GoState → GoState
 noted_left ending one s =
     if is_empty one.test then package_counted ending one.path s
-    else counted ending one.path one.test s
+    else end_counted ending one.path one.test s
 
 -- what still runs comes to this end; a package doesn't run before it has started
 abbrev pub left_one : Ending → Running → GoState → GoState
 left_one ending one s =
-    if one.has_begun then finished ending None (holds one (noted_left ending one s)) else s
+    if one.has_begun then held_finished ending None (holds one (noted_left ending one s)) else s
 
 -- ---- actions
 
 -- where a new test is nested; if a test of its name runs already, that one ends unfinished
 unfoldable pub above_held : List ℕ → List ℕ → GoState → Held
 above_held path test s =
-    let h = held path test s in
+    let h = held_test path test s in
     if is_empty test || not (bytes_eq h.one.test test) then h
-    else held path test (left_one Unfinished h.one h.state)
+    else held_test path test (left_one Unfinished h.one h.state)
 
 -- a test, or its package, starts in what is held
 abbrev pub begun_in : List ℕ → List ℕ → Held → GoState
 begun_in path test h =
-    if is_empty test then kept h else kept (holds (begun path test) (kept h))
+    if is_empty test then test_kept h else test_kept (holds (new_running path test) (test_kept h))
 
 -- a line that isn't ended yet comes before what starts after it
 abbrev pub ran : List ℕ → List ℕ → GoState → GoState
-ran path test s = begun_in path test (started (opened (part_emitted (above_held path test s))))
+ran path test s = begun_in path test (started (held_opened (part_emitted (above_held path test s))))
 
 -- reports the line that this string ends
 abbrev pub emitted_if_ended : List ℕ → Held → Held
-emitted_if_ended text h = if ends_line text then line_emitted h else h
+emitted_if_ended text h = if ends_line text then part_line_emitted h else h
 
 -- a string after what is printed of a line; an error makes its line an error
 abbrev pub more_printed : Bool → List ℕ → Held → Held
@@ -443,7 +445,8 @@ string_printed kind text h =
 
 -- a test prints, or a package
 abbrev pub printed : Kind → List ℕ → List ℕ → List ℕ → GoState → GoState
-printed kind path test text s = kept (string_printed kind text (started (held path test s)))
+printed kind path test text s =
+    test_kept (string_printed kind text (started (held_test path test s)))
 
 -- ---- builds
 
@@ -479,7 +482,7 @@ level_of_build level line = if is_progress line then Info else level
 abbrev pub build_said : Level → List ℕ → Held → Held
 build_said level text h =
     let line = without_line_end (without_heading text) in
-    if is_skipped line then h else said (level_of_build level line) line (opened h)
+    if is_skipped line then h else said (level_of_build level line) line (held_opened h)
 
 abbrev pub builds_said : Level → List (List ℕ) → Held → Held
 builds_said level [] h = h
@@ -487,7 +490,7 @@ builds_said level (text ∷ later) h = builds_said level later (build_said level
 
 -- reports the build output in its package
 abbrev pub texts_emitted : Level → Build → GoState → GoState
-texts_emitted level build s = kept (builds_said level build.texts (held build.path [] s))
+texts_emitted level build s = test_kept (builds_said level build.texts (held_test build.path [] s))
 
 abbrev pub emitted_of_build : Level → Option Build → GoState → GoState
 emitted_of_build level None s = s
@@ -501,7 +504,7 @@ build_emitted level path s = emitted_of_build level (named path s.builds) (witho
 abbrev pub left_over : Ending → Option Id → Tests → Tests → GoState → GoState
 left_over ending root earlier [] s = s
 left_over ending root earlier (test ∷ later) s =
-    left_one ending (placed root earlier test.1)
+    left_one ending (test_placed root earlier test.1)
     (left_over ending root (earlier ++ test ∷ []) later s)
 
 -- only the package itself still runs of a package
@@ -522,17 +525,17 @@ left_as Unfinished = Unfinished
 unfoldable pub package_ended : Ending → List ℕ → Option (List ℕ) → GoState → GoState
 package_ended ending path elapsed s =
     let counted_too : GoState = package_counted ending path s in
-    finished ending elapsed
+    held_finished ending elapsed
     (holds (running_as path [] (tests_of path counted_too))
     (all_left_over (left_as ending) path counted_too))
 
 -- a test ends, whether it runs or not
 abbrev pub test_ended : Ending → List ℕ → Option (List ℕ) → Held → GoState
 test_ended ending test elapsed h =
-    if bytes_eq h.one.test test then finished ending elapsed h
+    if bytes_eq h.one.test test then held_finished ending elapsed h
     else
-    let parent : Held = opened h in
-    kept (record parent {
+    let parent : Held = held_opened h in
+    test_kept (record parent {
       state = quiet_emitted ending (own_name parent.one.test test)
           (elapsed_fields elapsed) parent.one.span parent.state;
     })
@@ -542,10 +545,10 @@ abbrev pub build_over : List ℕ → GoState → GoState
 build_over path s =
     record s { building = if bytes_eq s.building path then [] else s.building }
 
-abbrev pub ended : Ending → List ℕ → List ℕ → Option (List ℕ) → GoState → GoState
-ended ending path test elapsed s =
+abbrev pub test_or_package_ended : Ending → List ℕ → List ℕ → Option (List ℕ) → GoState → GoState
+test_or_package_ended ending path test elapsed s =
     if is_empty test then package_ended ending path elapsed (build_over path s)
-    else test_ended ending test elapsed (held path test (counted ending path test s))
+    else test_ended ending test elapsed (held_test path test (end_counted ending path test s))
 
 -- ---- lines
 
@@ -561,8 +564,8 @@ is_aside line s = is_empty s.building || is_progress line
 abbrev pub takes_plain : List ℕ → GoState → GoState
 takes_plain line s =
     if is_package_frame line then s
-    else if is_aside line s then event_emitted (level_of_text line) line [] s.last s
-    else kept (said Error line (opened (held s.building [] s)))
+    else if is_aside line s then text_event_emitted (level_of_text line) line [] s.last s
+    else test_kept (said Error line (held_opened (held_test s.building [] s)))
 
 abbrev pub takes_failure : Option (List ℕ) → List ℕ → GoState → GoState
 takes_failure (Some rest) line s =
@@ -603,8 +606,8 @@ kind_named word =
     else if begins (codes "error") word then Failure
     else Plain
 
-abbrev pub kind_in : Json → Kind
-kind_in value = kind_named (unwrap_or (text_at (codes "OutputType") value) [])
+abbrev pub output_kind : Json → Kind
+output_kind value = kind_named (unwrap_or (text_at (codes "OutputType") value) [])
 
 abbrev pub printed_if : Kind → List ℕ → List ℕ → Option (List ℕ) → GoState → Option GoState
 printed_if kind path test None s = None
@@ -617,16 +620,16 @@ build_printed_if path (Some text) s = Some (build_printed path text s)
 
 -- a package starts
 abbrev pub package_started : List ℕ → GoState → GoState
-package_started path s = kept (started (held path [] s))
+package_started path s = test_kept (started (held_test path [] s))
 
 -- a test or its package starts or ends; every other action does nothing
 abbrev pub moved : List ℕ → List ℕ → List ℕ → Option (List ℕ) → GoState → GoState
 moved action path test elapsed s =
     if bytes_eq action (codes "run") then ran path test s
     else if bytes_eq action (codes "pass") || bytes_eq action (codes "bench")
-    then ended Passed path test elapsed s
-    else if bytes_eq action (codes "fail") then ended Failed path test elapsed s
-    else if bytes_eq action (codes "skip") then ended Skipped path test elapsed s
+    then test_or_package_ended Passed path test elapsed s
+    else if bytes_eq action (codes "fail") then test_or_package_ended Failed path test elapsed s
+    else if bytes_eq action (codes "skip") then test_or_package_ended Skipped path test elapsed s
     else if bytes_eq action (codes "start") then package_started path s
     else s
 
@@ -637,7 +640,7 @@ acted action path test value s =
     if bytes_eq action (codes "build-output")
     then build_printed_if path (text_at (codes "Output") value) s
     else if bytes_eq action (codes "output")
-    then printed_if (kind_in value) path test (text_at (codes "Output") value) s
+    then printed_if (output_kind value) path test (text_at (codes "Output") value) s
     else if bytes_eq action (codes "build-fail") then Some (build_emitted Error path s)
     else Some (moved action path test (elapsed_in value) (build_emitted Warn path s))
 
@@ -651,8 +654,8 @@ abbrev pub takes_json : Json → GoState → Option GoState
 takes_json value s = acted_for (text_at (codes "Action") value) (package_of value) value s
 
 -- the line that is taken next happens at its own time
-abbrev pub timed : Json → GoState → GoState
-timed value s = record s { moment = moment_after (text_at (codes "Time") value) s.moment }
+abbrev pub at_action_time : Json → GoState → GoState
+at_action_time value s = record s { moment = moment_after (text_at (codes "Time") value) s.moment }
 
 -- a known line is processed, and an unknown one changes nothing
 abbrev pub takes_value_as : Option GoState → GoState → GoState → Bool → Type 0
@@ -663,7 +666,8 @@ abbrev pub takes_timed : Json → GoState → GoState → Bool → Type 0
 takes_timed value old new known = takes_value_as (takes_json value old) old new known
 
 abbrev pub takes_value : Json → GoState → GoState → Bool → Type 0
-takes_value value old new known = takes_value_as (takes_json value (timed value old)) old new known
+takes_value value old new known =
+    takes_value_as (takes_json value (at_action_time value old)) old new known
 
 abbrev pub handed_out : GoState → Step GoState
 handed_out s = record { calls = s.calls; source = record s { calls = [] } }
@@ -671,7 +675,7 @@ handed_out s = record { calls = s.calls; source = record s { calls = [] } }
 -- what a line means
 abbrev pub go_takes : GoState → List ℕ → Option Json → Option (Step GoState)
 go_takes s line None = Some (handed_out (takes_text line s))
-go_takes s line (Some value) = option_map handed_out (takes_json value (timed value s))
+go_takes s line (Some value) = option_map handed_out (takes_json value (at_action_time value s))
 
 -- the first key that an unknown line lacks
 abbrev pub problem_in : Json → Problem
@@ -694,7 +698,7 @@ more_text count =
 abbrev pub names_field : List ℕ → ℕ → List ℕ → List Field
 names_field key count names =
     if is_empty names then []
-    else record { name = key; value = shown (names ++ more_text count) } ∷ []
+    else record { name = key; value = shown_text (names ++ more_text count) } ∷ []
 
 -- the line that counts the tests and packages, and names those that failed
 abbrev pub tally_fields : Tally → List Field
@@ -713,7 +717,7 @@ failing_fields tally failing =
 
 abbrev pub tally_call : GoState → Call
 tally_call s =
-    event_call s.moment (if has_failed s then Error else Info)
+    event_call s.moment (if any_failed s then Error else Info)
     (tally_fields s.tally ++ failing_fields s.tally s.failing) None
 
 -- a package ends unfinished; one of which only the build is known has no end
@@ -725,7 +729,7 @@ package_over own s =
 abbrev pub package_left : Tests → GoState → GoState
 package_left tests s =
     left_last (named [] tests)
-    (left_over Unfinished (span_in tests []) [] (without [] tests) s) where
+    (left_over Unfinished (span_of_test tests []) [] (without [] tests) s) where
       left_last : Option Running → GoState → GoState
       left_last None s = s
       left_last (Some own) s = package_over own s
@@ -738,7 +742,7 @@ packages_left (one ∷ others) s = packages_left others (package_left one.1 s)
 -- reports the build output of a package that doesn't run, in a separate span
 abbrev pub build_last : Build → GoState → GoState
 build_last build s =
-    let all : Held = builds_said Warn build.texts (holds (begun build.path []) s) in
+    let all : Held = builds_said Warn build.texts (holds (new_running build.path []) s) in
     only_closed all.one.span all
 
 -- reports what builds printed, one after the other, when no package runs

@@ -2,7 +2,7 @@
 use Rattle.std.specs.Prelude.{◌≡◌, ◌<◌, ◌⊎◌, ⊤, ℕ, true, false, List, [], ◌∷◌, ◌++◌, length, Option, Some, None, is_some, codes}
 use Rattle.tracing_tree_base.specs.declared.context.Id.{Id}
 use Rattle.ttree_source.specs.Marks.{is_empty}
-use Rattle.ttree_go_test.specs.GoTest.{GoState, Tests, span_in, tests_of}
+use Rattle.ttree_go_test.specs.GoTest.{GoState, Tests, span_of_test, tests_of}
 use Rattle.ttree_go_test.specs.Names.{named}
 use Rattle.tracing_tree_layer.specs.declared.call.Call.{Call}
 use Rattle.tracing_tree_layer.specs.declared.call.Call.TheVariants.{New, Clone, Record, Event, Close}
@@ -16,20 +16,20 @@ pub record IsIn (test outer : List ℕ) : Type 0 where
 -- This test runs and has this span, and no test that is nearer has one.
 pub record IsNearest (tests : Tests) (test outer : List ℕ) (span : Id) : Type 0 where
   pub inside : IsIn test outer
-  pub shows : span_in tests outer ≡ Some span
+  pub shows : span_of_test tests outer ≡ Some span
   pub nearest : (other : List ℕ) → IsIn test other → length outer < length other →
-      span_in tests other ≡ None
+      span_of_test tests other ≡ None
 
 -- no test that it is nested in runs and has a span
 abbrev pub IsAlone : Tests → List ℕ → Type 0
-IsAlone tests test = (outer : List ℕ) → IsIn test outer → span_in tests outer ≡ None
+IsAlone tests test = (outer : List ℕ) → IsIn test outer → span_of_test tests outer ≡ None
 
 -- The span of the nearest test that it is nested in and that runs and has a span; otherwise that of
 -- the package.
 abbrev pub IsParent : Tests → List ℕ → Option Id → Type 0
 IsParent tests test parent =
     ((outer : List ℕ) × (span : Id) × IsNearest tests test outer span × (parent ≡ Some span))
-    ⊎ (IsAlone tests test × (parent ≡ span_in tests []))
+    ⊎ (IsAlone tests test × (parent ≡ span_of_test tests []))
 
 -- a test, or one that it is nested in
 abbrev pub IsAtOrIn : List ℕ → List ℕ → Type 0
@@ -71,4 +71,4 @@ pub record PlacesCalls (path test : List ℕ) (s t : GoState) : Type 0 where
   pub place : IsPlace (tests_of path s) name parent
   pub calls : List Call
   pub adds : t.calls ≡ s.calls ++ calls
-  pub placed : ArePlacedCalls parent (span_in (tests_of path t) name) calls
+  pub placed : ArePlacedCalls parent (span_of_test (tests_of path t) name) calls

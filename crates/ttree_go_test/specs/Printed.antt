@@ -8,11 +8,11 @@ use Rattle.tracing_tree_layer.specs.declared.call.Call.TheVariants.{New, Clone, 
 use Rattle.tracing_tree_lines.specs.Lines.Spelled.{is_skipped}
 use Rattle.ttree_source.specs.Marks.{begins}
 use Rattle.ttree_source.specs.Source.{interpret_line}
-use Rattle.ttree_source.specs.Calls.{shown}
+use Rattle.ttree_source.specs.Calls.{shown_text}
 use Rattle.ttree_source.specs.Values.{text_at}
 use Rattle.ttree_go_test.specs.declared.go_test.running.Kind.{Kind}
 use Rattle.ttree_go_test.specs.declared.go_test.tally.Ending.{Ending}
-use Rattle.ttree_go_test.specs.GoTest.{GoState, go_takes, is_framing, kind_in, owner, package_of, test_of, tests_of, word_of, without_heading}
+use Rattle.ttree_go_test.specs.GoTest.{GoState, go_takes, is_framing, output_kind, owner, package_of, test_of, tests_of, ending_word, without_heading}
 use Rattle.ttree_go_test.specs.Texts.{is_frame, without_line_end, is_package_frame}
 
 -- ---- what is printed
@@ -28,7 +28,12 @@ abbrev pub print_with : Option (List ℕ) → Option (List ℕ) → Option (List
     → Option Print
 print_with (Some action) (Some path) (Some string) value =
     if bytes_eq action (codes "output")
-    then Some (record { path = path; test = test_of value; kind = kind_in value; string = string })
+    then Some (record {
+      path = path;
+      test = test_of value;
+      kind = output_kind value;
+      string = string;
+    })
     else None
 print_with (Some action) (Some path) None value = None
 print_with (Some action) None string value = None
@@ -70,8 +75,8 @@ text_by path test one =
     if bytes_eq path one.path && bytes_eq test one.test then one.text else []
 
 -- all text of a test, in order
-abbrev pub text_of : List ℕ → List ℕ → List Printed → List ℕ
-text_of path test texts = flat_map (text_by path test) texts
+abbrev pub test_text : List ℕ → List ℕ → List Printed → List ℕ
+test_text path test texts = flat_map (text_by path test) texts
 
 -- ---- what is shown
 
@@ -91,13 +96,13 @@ is_shown one =
 
 -- the message of a line, unless it is blank
 abbrev pub unless_blank : List ℕ → List (List ℕ)
-unless_blank line = if is_skipped line then [] else shown line ∷ []
+unless_blank line = if is_skipped line then [] else shown_text line ∷ []
 
 -- the message of its event
 abbrev pub shown_message : Shown → List (List ℕ)
-shown_message (Line one) = if is_shown one then shown (without_line_end one.text) ∷ [] else []
-shown_message (End ending) = shown (word_of ending) ∷ []
-shown_message (NamedEnd ending name) = shown (word_of ending ++ codes " " ++ name) ∷ []
+shown_message (Line one) = if is_shown one then shown_text (without_line_end one.text) ∷ [] else []
+shown_message (End ending) = shown_text (ending_word ending) ∷ []
+shown_message (NamedEnd ending name) = shown_text (ending_word ending ++ codes " " ++ name) ∷ []
 shown_message (Built path string) = unless_blank (without_line_end (without_heading string))
 shown_message (Plain line) = unless_blank line
 
@@ -208,6 +213,6 @@ pub record ShowsEachLine (texts : List Printed) (builds : List BuildPrint)
   pub items : List Shown
   pub events : messages calls ≡ shown_messages items
   pub printed_once : (path test : List ℕ) →
-      text_of path test (lines_in items) ≡ text_of path test texts
+      test_text path test (lines_in items) ≡ test_text path test texts
   pub built_once : (path : List ℕ) → built_of path items ≡ strings_of path builds
   pub plain_once : plains_in items ≡ plains

@@ -3,8 +3,8 @@
 ghost use Rattle.std.specs.Prelude.{◌≡◌, ◌++◌, ◌∷◌, ◌&&◌, ◌||◌, ℕ, List, [], not, IfOk, OnOk, option_map};
 ghost use Rattle.std.specs.BTreeSet.{contains_text};
 ghost use Rattle.json.specs.Value.{value_view};
-ghost use Rattle.ttree_go_test.specs.GoTest.{go_takes, has_failed};
-ghost use Rattle.ttree_go_test.specs.Failed.{Knows, all_released, forgotten, is_bad, is_good, is_inner, is_open, is_over, kept_in, kept_shown, line_kept, line_shown, line_taken, none_failed, outermost, package_released, path_of, released, released_each, released_one, says, someone_says, emitted_of, tests_released, pending_of, value_taken, verdict_in, verdict_of, with_line, with_pending, without_pending};
+ghost use Rattle.ttree_go_test.specs.GoTest.{any_failed, go_takes};
+ghost use Rattle.ttree_go_test.specs.Failed.{Knows, all_released, forgotten, is_bad, is_good, is_inner, is_open, is_over, kept_in, kept_shown, line_kept, line_shown, failed_line_taken, none_failed, outermost, package_released, package_path, released, released_each, released_one, says, someone_says, emitted_of, tests_released, pending_of, value_taken, verdict_in, verdict_of, with_kept_line, with_pending, without_pending};
 ghost use Rattle.ttree_go_test.specs.Names.{without};
 
 use crate::go_test::{GoTest, package_of, test_of};
@@ -123,7 +123,7 @@ impl Failed {
 
     /// Returns whether a test or a package has failed, or a package didn't end.
     pub fn has_failed(&self) -> bool
-        ensures { result ≡ has_failed self.now.whole }
+        ensures { result ≡ any_failed self.now.whole }
     {
         self.whole.has_failed()
     }
@@ -154,7 +154,8 @@ impl Failed {
     // Takes a line that is known.
     fn take_line(&mut self, line: &str, value: Option<&Value<'_>>) -> Result<(), AllocError>
         ensures { OnOk result (self.new
-            ≡ line_taken line.now (option_map (λ v. value_view v.now) value.entry) self.old) }
+            ≡ failed_line_taken line.now
+            (option_map (λ v. value_view v.now) value.entry) self.old) }
     {
         match value {
             Some(value) => self.take_value(line, value),
@@ -298,7 +299,7 @@ fn add_line(
     test: &str,
     one: HeldLine,
 ) -> Result<(), AllocError>
-    ensures { OnOk result (pending.new ≡ with_line test.now one pending.old) }
+    ensures { OnOk result (pending.new ≡ with_kept_line test.now one pending.old) }
 {
     let mut lines = take_lines(alloc, pending, test)?;
     lines.push(one)?;
@@ -509,7 +510,7 @@ fn outermost(test: &str) -> &str
 
 // Returns the package of a line that is known.
 fn path_of<'v>(value: &'v Value<'_>) -> &'v str
-    ensures { result.now ≡ path_of (value_view value.now) }
+    ensures { result.now ≡ package_path (value_view value.now) }
 {
     match package_of(value) {
         Some(path) => path,

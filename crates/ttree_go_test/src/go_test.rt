@@ -3,7 +3,7 @@
 ghost use Rattle.std.specs.Prelude.{◌≡◌, ◌++◌, ◌∷◌, [], IfOk, OnOk, Option, None, Some, option_map};
 ghost use Rattle.ttree_go_test.specs.Names.{without};
 ghost use Rattle.json.specs.Value.{value_view};
-ghost use Rattle.ttree_go_test.specs.GoTest.{acted, build_printed_if, failed_counted, has_failed, is_aside, kind_in, level_of_text, moved, one_ended, package_counted, package_failed, packages_ended, printed_if, takes_plain, takes_value_as, test_ended, begun, counted, elapsed_in, ended, holds, kept, problem_in, nothing_run, package_ended, package_of, printed, ran, takes_text, takes_timed, takes_value, timed, test_of, above_held, all_ended, left_one, noted_left, package_left, packages_left, placed, runs, tally_call, left_over, build_over, built_after, package_over, package_started, held, running_as, tests_of, with_package, without_package};
+ghost use Rattle.ttree_go_test.specs.GoTest.{acted, build_printed_if, failed_counted, any_failed, is_aside, output_kind, level_of_text, moved, one_ended, package_counted, package_failed, packages_ended, printed_if, takes_plain, takes_value_as, test_ended, new_running, end_counted, elapsed_in, test_or_package_ended, holds, test_kept, problem_in, nothing_run, package_ended, package_of, printed, ran, takes_text, takes_timed, takes_value, at_action_time, test_of, above_held, all_ended, left_one, noted_left, package_left, packages_left, test_placed, runs, tally_call, left_over, build_over, built_after, package_over, package_started, held_test, running_as, tests_of, with_package, without_package};
 
 mod builds;
 mod emitting;
@@ -113,7 +113,7 @@ impl GoTest {
 
     /// Returns whether a test or a package has failed, or a package didn't end.
     pub fn has_failed(&self) -> bool
-        ensures { result ≡ has_failed self.now }
+        ensures { result ≡ any_failed self.now }
     {
         self.tally.has_failed()
     }
@@ -227,7 +227,7 @@ impl GoTest {
 
     // Advances to the moment of a line.
     fn go_on(&mut self, value: &Value<'_>)
-        ensures { self.new ≡ timed (value_view value.now) self.old }
+        ensures { self.new ≡ at_action_time (value_view value.now) self.old }
     {
         self.moment = moment_after(text_at(value, "Time"), &self.moment);
     }
@@ -393,7 +393,7 @@ impl GoTest {
         test: &str,
         elapsed: Option<&str>,
     ) -> Result<(), AllocError>
-        ensures { OnOk result (self.new ≡ ended ending path.now test.now
+        ensures { OnOk result (self.new ≡ test_or_package_ended ending path.now test.now
             (option_map (λ e. e.now) elapsed.entry) self.old) }
     {
         if test.is_empty() {
@@ -479,7 +479,7 @@ impl GoTest {
         one: Running,
     ) -> Result<(), AllocError>
         ensures { OnOk result (self.new
-            ≡ left_one ending (placed package_span others.now one) self.old) }
+            ≡ left_one ending (test_placed package_span others.now one) self.old) }
     {
         let mut one = one;
         one.place(self.alloc, package_span, others)?;
@@ -574,7 +574,7 @@ impl GoTest {
 
     // Counts a test that ended like this.
     fn count(&mut self, ending: Ending, path: &str, test: &str) -> Result<(), AllocError>
-        ensures { OnOk result (self.new ≡ counted ending path.now test.now self.old) }
+        ensures { OnOk result (self.new ≡ end_counted ending path.now test.now self.old) }
     {
         match ending {
             Ending::Passed => self.tally.passed = self.tally.passed.saturating_add(1),
@@ -625,7 +625,7 @@ impl GoTest {
 
     // Takes out what is running under the longest prefix of this name, split at a `/`.
     fn take_owner(&mut self, path: &str, test: &str) -> Result<Running, AllocError>
-        ensures { IfOk result (λ one. holds one self.new ≡ held path.now test.now self.old) }
+        ensures { IfOk result (λ one. holds one self.new ≡ held_test path.now test.now self.old) }
     {
         let mut tests = self.take_package(path)?;
         let name = owner(&tests, test.as_bytes());
@@ -637,7 +637,7 @@ impl GoTest {
 
     // Puts back a test or a package that is running.
     fn keep(&mut self, one: Running) -> Result<(), AllocError>
-        ensures { OnOk result (self.new ≡ kept (holds one self.old)) }
+        ensures { OnOk result (self.new ≡ test_kept (holds one self.old)) }
     {
         let path = one.path.clone()?;
         let name = one.test.clone()?;
@@ -748,7 +748,7 @@ fn level_of_text(line: &str) -> Level
 
 // Returns the kind of a line's output.
 fn kind_in(value: &Value<'_>) -> Kind
-    ensures { result ≡ kind_in (value_view value.now) }
+    ensures { result ≡ output_kind (value_view value.now) }
 {
     match text_at(value, "OutputType") {
         Some(word) => Kind::named(word),

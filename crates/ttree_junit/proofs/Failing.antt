@@ -19,7 +19,7 @@ use Rattle.ttree_junit.specs.Document.{ReadDocument, at_end, document_state, rea
 use Rattle.ttree_junit.specs.Junit.{JunitState}
 use Rattle.ttree_junit.specs.Lines.{is_blank_text}
 use Rattle.ttree_junit.specs.Outcomes.{counted_all, cut_element_outcomes, cut_outcomes, cut_outcomes_if, cut_outcomes_times, element_outcomes, is_failed, next_outcomes, outcomes_if, outcomes_of, outcomes_within, some_failed, suite_outcomes, token_outcomes}
-use Rattle.ttree_junit.specs.Reading.{at_start, begun, begun_as, case_cut, case_ended, case_shown, cdata_added, class_closed, class_entered, class_left, class_opened, closed_if, closed_times, counted, counted_as, cut_as, cut_if, cut_times, cut_with, element_begun, element_of, elements_cut, end_event, ended, ended_as, ended_element, ended_if, ended_with, event_shown, failure_ended, failure_of, finished, innermost, innermost_cut, innermost_ended, innermost_span, is_case_hidden, is_in_class, is_open, is_suite_hidden, outer, output_ended, output_of, output_shown, outside_shown, property_added, property_of, recorded_in, row_calls, rows_in_suite, shown_unless_hidden, skip_ended, span_shown, suite_begun, suite_closed, suite_ended, suite_failed, suite_hidden, suites_closed, taken, tallied, text_added, wants_class, without_suite}
+use Rattle.ttree_junit.specs.Reading.{at_start, begun_as, case_counted, case_cut, case_ended, case_shown, case_span_shown, cdata_added, class_closed, class_entered, class_left, class_opened, closed_if, closed_times, counted_as, cut_as, cut_if, cut_times, cut_with, element_begun, element_of, elements_cut, end_event, ended_as, ended_element, ended_if, ended_with, event_shown, failure_ended, failure_of, innermost, innermost_cut, innermost_ended, innermost_span, is_case_hidden, is_in_class, is_open, is_suite_hidden, last_element_ended, next_element_begun, outer, output_ended, output_of, output_shown, outside_shown, property_added, property_of, recorded_in, report_finished, row_calls, rows_in_suite, shown_unless_hidden, skip_ended, suite_begun, suite_closed, suite_ended, suite_failed, suite_hidden, suites_closed, taken, tallied, text_added, wants_class, without_suite}
 use Rattle.ttree_junit.specs.declared.case.Outcome.{Outcome}
 use Rattle.ttree_junit.specs.declared.case.Outcome.TheVariants.{Passed, Failed, Skipped as WasSkipped, Unfinished as WasUnfinished}
 use Rattle.ttree_junit.specs.declared.element.Element.{Element}
@@ -65,7 +65,7 @@ ends_suite : (s : JunitState) → Keeps s (suite_ended s)
 ends_suite s = ends_if (innermost (class_left s).suites) (without_suite (class_left s)) ∙ leaves_class s
 
 shows_case : (s : JunitState) → Keeps s (case_shown s)
-shows_case s = choose s (is_bare s.case) (event_shown s) (span_shown s) refl refl
+shows_case s = choose s (is_bare s.case) (event_shown s) (case_span_shown s) refl refl
 
 shows : (s : JunitState) → Keeps s (shown_unless_hidden s)
 shows s = choose s (is_case_hidden s) s (case_shown (class_entered s)) refl (shows_case (class_entered s) ∙ enters_class s)
@@ -108,7 +108,7 @@ begins_as Other s = adds_cdata (codes "\n") s
 begins_element : (s : JunitState) → Keeps s (element_begun s)
 begins_element s = begins_as (element_of s) _
 
-begins : (s : JunitState) → Keeps s (begun s)
+begins : (s : JunitState) → Keeps s (next_element_begun s)
 begins s = begins_element (outside_shown s) ∙ shows_outside s
 
 -- ---- what counts
@@ -149,7 +149,7 @@ counts_as WasUnfinished t = sym (or_false (has_failures t))
 counts_as Failed t = nonzero t.failed ∙ sym (or_true (has_failures t))
 
 ends_case : (s : JunitState) → Counts (outcome_of s.case ∷ []) s (case_ended s)
-ends_case s = shows (counted (record s { in_case = false }))
+ends_case s = shows (case_counted (record s { in_case = false }))
 
 fails_suite : (level : Level) (s : JunitState) → Counts (Failed ∷ []) s (suite_failed level s)
 fails_suite level s = leaves_class (record s { tally = counted_as Failed s.tally })
@@ -189,7 +189,7 @@ elements_apart (Some Property) elements s = refl
 elements_apart (Some Other) elements s = refl
 elements_apart None elements s = refl
 
-ends : (s : JunitState) → Counts (outcomes_if (innermost s.elements) s) s (ended s)
+ends : (s : JunitState) → Counts (outcomes_if (innermost s.elements) s) s (last_element_ended s)
 ends s =
     ends_element (innermost s.elements) (record s { elements = outer s.elements })
     ∙ ap (λ outcomes. counted_all outcomes s.tally) (elements_apart (innermost s.elements) (outer s.elements) s)
@@ -197,9 +197,9 @@ ends s =
 takes : (token : XmlToken) (s : JunitState) → Counts (token_outcomes token s) s (taken token s)
 takes (start_tag name) s = counts_none s (taken (start_tag name) s) refl
 takes (attribute name value) s = counts_none s (taken (attribute name value) s) refl
-takes tag_end s = counts_none s (begun s) (begins s)
+takes tag_end s = counts_none s (next_element_begun s) (begins s)
 takes empty_tag_end s =
-    ends (begun s) ∙ ap (counted_all (outcomes_if (innermost (begun s).elements) (begun s))) (begins s)
+    ends (next_element_begun s) ∙ ap (counted_all (outcomes_if (innermost (next_element_begun s).elements) (next_element_begun s))) (begins s)
 takes (end_tag name) s = ends s
 takes (characters run) s = counts_none s (text_added run s) (adds_text run s)
 takes (cdata part) s = counts_none s (cdata_added part s) (adds_cdata part s)
@@ -252,8 +252,8 @@ closes_times (suc count) s = closes_times count (suite_closed s) ∙ closes_suit
 emits_counts : (s : JunitState) → Keeps s (tallied s)
 emits_counts s = choose s s.is_report _ s refl refl
 
-finishes : (s : JunitState) → Counts (cut_outcomes s) s (finished s)
-unfolding finished
+finishes : (s : JunitState) → Counts (cut_outcomes s) s (report_finished s)
+unfolding report_finished
 finishes s =
     let cut = elements_cut s in
     let left = class_left cut in
@@ -268,16 +268,16 @@ takes_rest In.Instruction rest s = refl
 takes_rest In.Doctype rest s = refl
 
 reads_next : (found : Result (Option ReadStep) Unfinished) (rest : List ℕ) (s : JunitState) (others : Reading → JunitState → ReadDocument) (more : Reading → JunitState → List Outcome) →
-    ((reading : Reading) (t : JunitState) → Counts (more reading t) t (finished (others reading t).state)) → Counts (next_outcomes found rest s more) s (finished (read_next found rest s others).state)
+    ((reading : Reading) (t : JunitState) → Counts (more reading t) t (report_finished (others reading t).state)) → Counts (next_outcomes found rest s more) s (report_finished (read_next found rest s others).state)
 reads_next (Ok (Some step)) rest s others more later =
-    then_counts (token_outcomes step.token s) (more step.after (taken step.token s)) s (taken step.token s) (finished (others step.after (taken step.token s)).state)
+    then_counts (token_outcomes step.token s) (more step.after (taken step.token s)) s (taken step.token s) (report_finished (others step.after (taken step.token s)).state)
     (takes step.token s) (later step.after (taken step.token s))
 reads_next (Ok None) rest s others more later = finishes s
 reads_next (Err unfinished) rest s others more later =
     let t = rest_taken unfinished rest s in
     finishes t ∙ ap (counted_all (cut_outcomes t)) (takes_rest unfinished rest s)
 
-reads_within : (tokens : ℕ) (reading : Reading) (s : JunitState) → Counts (outcomes_within tokens reading s) s (finished (read_within tokens reading s).state)
+reads_within : (tokens : ℕ) (reading : Reading) (s : JunitState) → Counts (outcomes_within tokens reading s) s (report_finished (read_within tokens reading s).state)
 reads_within zero reading s = finishes s
 reads_within (suc tokens) reading s =
     reads_next (step_of reading s) reading.rest s (λ rest t. read_within tokens rest t) (λ rest t. outcomes_within tokens rest t) (reads_within tokens)

@@ -5,26 +5,26 @@ use Rattle.ttree_junit.specs.Case.{case_of, outcome_of, with_failure, with_skip}
 use Rattle.ttree_junit.specs.Element.{begins_document, element_named, is_off, role_of}
 use Rattle.ttree_junit.specs.Lines.{head_of, info_row, printed_rows}
 use Rattle.ttree_junit.specs.Reading.{no_tag}
-use Rattle.ttree_junit.specs.Seconds.{nanoseconds_of}
+use Rattle.ttree_junit.specs.Seconds.{seconds_as_nanoseconds}
 use Rattle.ttree_junit.specs.States.{PartState}
 use Rattle.ttree_junit.specs.declared.case.Outcome.TheVariants.{Passed, Failed, Skipped as WasSkipped}
 use Rattle.ttree_junit.specs.declared.element.Element.TheVariants.{Failure, Output, Other}
 
 -- ---- times
 
-pub a_time_of_ctest : nanoseconds_of (codes "0.0666751") ≡ Some 66_675_100
+pub a_time_of_ctest : seconds_as_nanoseconds (codes "0.0666751") ≡ Some 66_675_100
 a_time_of_ctest = refl
 
-pub a_short_time_of_ctest : nanoseconds_of (codes "6.2e-05") ≡ Some 62_000
+pub a_short_time_of_ctest : seconds_as_nanoseconds (codes "6.2e-05") ≡ Some 62_000
 a_short_time_of_ctest = refl
 
-pub a_time_below_zero : nanoseconds_of (codes "-0.000000") ≡ Some 0
+pub a_time_below_zero : seconds_as_nanoseconds (codes "-0.000000") ≡ Some 0
 a_time_below_zero = refl
 
-pub a_time_with_a_comma : nanoseconds_of (codes "1,234.5") ≡ Some 1_234_500_000_000
+pub a_time_with_a_comma : seconds_as_nanoseconds (codes "1,234.5") ≡ Some 1_234_500_000_000
 a_time_with_a_comma = refl
 
-pub no_time : nanoseconds_of (codes "") ≡ None
+pub no_time : seconds_as_nanoseconds (codes "") ≡ None
 no_time = refl
 
 -- ---- elements

@@ -3,12 +3,12 @@ use Rattle.std.specs.Prelude.{ℕ, ◌==◌, ◌||◌, ◌&&◌, Bool, true, fal
 use Rattle.tracing_tree_base.specs.declared.field.Field.{Field}
 use Rattle.tracing_tree_base.specs.declared.style.Level.{Level}
 use Rattle.tracing_tree_base.specs.declared.style.Level.TheVariants.{Trace, Debug, Info, Warn, Error}
-use Rattle.ttree_source.specs.Calls.{message_field, shown}
+use Rattle.ttree_source.specs.Calls.{message_field, shown_text}
 use Rattle.ttree_junit.specs.Element.{attribute_in, is_off}
 use Rattle.ttree_junit.specs.Failure.{failure_rows}
 use Rattle.ttree_source.specs.Length.{length_text}
 use Rattle.ttree_junit.specs.Lines.{printed_rows, reason_of}
-use Rattle.ttree_junit.specs.Seconds.{nanoseconds_of}
+use Rattle.ttree_junit.specs.Seconds.{seconds_as_nanoseconds}
 use Rattle.ttree_junit.specs.States.{CaseState, PartState, TagState}
 use Rattle.ttree_junit.specs.declared.case.Outcome.{Outcome}
 use Rattle.ttree_junit.specs.declared.case.Outcome.TheVariants.{Passed, Failed, Skipped, Unfinished}
@@ -18,7 +18,7 @@ abbrev pub case_of : TagState → CaseState
 case_of tag = record {
   name = attribute_in (codes "name") tag.attributes;
   classname = attribute_in (codes "classname") tag.attributes;
-  nanoseconds = nanoseconds_of (attribute_in (codes "time") tag.attributes);
+  nanoseconds = seconds_as_nanoseconds (attribute_in (codes "time") tag.attributes);
   is_off = is_off (attribute_in (codes "status") tag.attributes);
   is_failed = false;
   is_skipped = false;
@@ -70,39 +70,40 @@ outcome_of case =
 abbrev pub is_bare : CaseState → Bool
 is_bare case = (length case.rows == 0) && (length case.fields == 0)
 
-abbrev pub word_of : Outcome → List ℕ
-word_of Passed = codes "pass"
-word_of Failed = codes "fail"
-word_of Skipped = codes "skip"
-word_of Unfinished = codes "unfinished"
+abbrev pub outcome_word : Outcome → List ℕ
+outcome_word Passed = codes "pass"
+outcome_word Failed = codes "fail"
+outcome_word Skipped = codes "skip"
+outcome_word Unfinished = codes "unfinished"
 
-abbrev pub level_of : Outcome → Level
-level_of Passed = Info
-level_of Failed = Error
-level_of Skipped = Warn
-level_of Unfinished = Error
+abbrev pub level_of_outcome : Outcome → Level
+level_of_outcome Passed = Info
+level_of_outcome Failed = Error
+level_of_outcome Skipped = Warn
+level_of_outcome Unfinished = Error
 
-abbrev pub named : List ℕ → List ℕ → List ℕ
-named word name = word ++ codes " " ++ name
+abbrev pub word_and_name : List ℕ → List ℕ → List ℕ
+word_and_name word name = word ++ codes " " ++ name
 
 abbrev pub reason_fields : List ℕ → List Field
 reason_fields reason =
     if length reason == 0 then []
-    else record { name = codes "reason"; value = shown reason } ∷ []
+    else record { name = codes "reason"; value = shown_text reason } ∷ []
 
 abbrev pub time_fields : Option ℕ → List Field
 time_fields (Some nanoseconds) =
     record { name = codes "time"; value = length_text nanoseconds } ∷ []
 time_fields None = []
 
-abbrev pub end_fields : List ℕ → CaseState → List Field
-end_fields message case =
+abbrev pub outcome_fields : List ℕ → CaseState → List Field
+outcome_fields message case =
     message_field message ∷ [] ++ reason_fields case.reason ++ time_fields case.nanoseconds
 
 -- the event of a bare case
-abbrev pub event_fields : CaseState → List Field
-event_fields case = end_fields (named (word_of (outcome_of case)) case.name) case
+abbrev pub bare_case_fields : CaseState → List Field
+bare_case_fields case =
+    outcome_fields (word_and_name (outcome_word (outcome_of case)) case.name) case
 
 -- the last event in the span of a case
-abbrev pub span_fields : CaseState → List Field
-span_fields case = end_fields (word_of (outcome_of case)) case
+abbrev pub case_end_fields : CaseState → List Field
+case_end_fields case = outcome_fields (outcome_word (outcome_of case)) case

@@ -10,7 +10,7 @@ use Rattle.xml.specs.declared.reader.Unfinished.{Unfinished}
 use Rattle.xml.specs.declared.reader.Unfinished.TheVariants.{Tag, Comment, Cdata, Instruction, Doctype}
 use Rattle.ttree_junit.specs.Element.{begins_document}
 use Rattle.ttree_junit.specs.Junit.{JunitState}
-use Rattle.ttree_junit.specs.Reading.{at_start, cdata_added, finished, is_open, taken}
+use Rattle.ttree_junit.specs.Reading.{at_start, cdata_added, is_open, report_finished, taken}
 use Rattle.ttree_junit.specs.declared.reading.Selection.{Selection}
 
 -- the part of a document that is read, and whether it is truncated
@@ -56,7 +56,7 @@ read_document selection next moment text =
 
 -- the document in its drawn form: what is open at its end closes
 abbrev pub document_state : Selection → ℕ → Moment → List ℕ → JunitState
-document_state selection next moment text = finished (read_document selection next moment
+document_state selection next moment text = report_finished (read_document selection next moment
     text).state
 
 abbrev pub document_calls : Selection → ℕ → Moment → List ℕ → List Call

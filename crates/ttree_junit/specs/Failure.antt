@@ -3,7 +3,7 @@ use Rattle.std.specs.Prelude.{ℕ, zero, suc, ◌==◌, Bool, true, false, if◌
 use Rattle.std.specs.Str.{trim}
 use Rattle.tracing_tree_base.specs.declared.style.Level.{Level}
 use Rattle.ttree_source.specs.Marks.{after_mark}
-use Rattle.ttree_junit.specs.Lines.{after_line, head_of, is_blank_text, line_of, printed_rows}
+use Rattle.ttree_junit.specs.Lines.{after_line, head_of, is_blank_text, printed_rows, text_first_line}
 use Rattle.ttree_junit.specs.States.{PartState}
 use Rattle.ttree_junit.specs.declared.lines.Row.{Row}
 
@@ -29,7 +29,7 @@ abbrev pub has_lines_within : ℕ → List ℕ → List ℕ → Bool
 has_lines_within zero text body = true
 has_lines_within (suc turns) text body =
     if length text == 0 then true
-    else and_then_has (after_line_in (line_of text) body)
+    else and_then_has (after_line_in (text_first_line text) body)
     (λ rest. has_lines_within turns (after_line text) rest)
 
 -- A body has the lines of a string, one after another. Each turn reads a byte or more.

@@ -13,8 +13,8 @@ abbrev pub has_line_end : List ℕ → Bool
 has_line_end text = nat_lt (position_or_len is_line_end text) (length text)
 
 -- the first line of a string, and what comes after it
-abbrev pub line_of : List ℕ → List ℕ
-line_of text = if has_line_end text then before_first is_line_end text else text
+abbrev pub text_first_line : List ℕ → List ℕ
+text_first_line text = if has_line_end text then before_first is_line_end text else text
 
 abbrev pub after_line : List ℕ → List ℕ
 after_line text = if has_line_end text then after_first is_line_end text else []
@@ -55,8 +55,8 @@ abbrev pub rows_within : ℕ → Option (List ℕ) → List ℕ → List Row
 rows_within zero kept text = []
 rows_within (suc turns) kept text =
     if length text == 0 then []
-    else line_rows kept (line_of text)
-    ++ rows_within turns (kept_after kept (line_of text)) (after_line text)
+    else line_rows kept (text_first_line text)
+    ++ rows_within turns (kept_after kept (text_first_line text)) (after_line text)
 
 -- The lines of a string that are shown. Each turn reads a byte or more.
 abbrev pub printed_rows : List ℕ → List Row
@@ -64,7 +64,8 @@ printed_rows text = rows_within (length text) None text
 
 -- what a failure is drawn as: the first line of its message, or the name of its element
 abbrev pub head_of : List ℕ → List ℕ → List ℕ
-head_of message name = if is_blank_text (line_of message) then name else line_of message
+head_of message name =
+    if is_blank_text (text_first_line message) then name else text_first_line message
 
 -- why a case was skipped: the message, otherwise the element's contents
 abbrev pub reason_of : List ℕ → List ℕ → List ℕ

@@ -9,7 +9,7 @@ use Rattle.xml.specs.declared.reader.Unfinished.{Unfinished}
 use Rattle.ttree_junit.specs.Case.{outcome_of}
 use Rattle.ttree_junit.specs.Document.{rest_taken, step_of}
 use Rattle.ttree_junit.specs.Junit.{JunitState}
-use Rattle.ttree_junit.specs.Reading.{at_start, begun, counted_as, innermost, innermost_cut, taken}
+use Rattle.ttree_junit.specs.Reading.{at_start, counted_as, innermost, innermost_cut, next_element_begun, taken}
 use Rattle.ttree_junit.specs.declared.case.Outcome.{Outcome}
 use Rattle.ttree_junit.specs.declared.case.Outcome.TheVariants.{Passed, Failed, Skipped as WasSkipped, Unfinished as WasUnfinished}
 use Rattle.ttree_junit.specs.declared.element.Element.{Element}
@@ -46,7 +46,8 @@ abbrev pub token_outcomes : XmlToken → JunitState → List Outcome
 token_outcomes (start_tag name) s = []
 token_outcomes (attribute name value) s = []
 token_outcomes tag_end s = []
-token_outcomes empty_tag_end s = outcomes_if (innermost (begun s).elements) (begun s)
+token_outcomes empty_tag_end s =
+    outcomes_if (innermost (next_element_begun s).elements) (next_element_begun s)
 token_outcomes (end_tag name) s = outcomes_if (innermost s.elements) s
 token_outcomes (characters run) s = []
 token_outcomes (cdata part) s = []

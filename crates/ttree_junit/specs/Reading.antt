@@ -9,16 +9,16 @@ use Rattle.tracing_tree_base.specs.declared.style.Level.{Level}
 use Rattle.tracing_tree_base.specs.declared.style.Level.TheVariants.{Info, Warn, Error}
 use Rattle.tracing_tree_layer.specs.declared.call.Call.{Call}
 use Rattle.ttree_source.specs.Counts.{one_more}
-use Rattle.ttree_source.specs.Calls.{close_call, event_call, message_field, record_call, shown, span_call}
+use Rattle.ttree_source.specs.Calls.{close_call, event_call, message_field, record_call, shown_text, span_call}
 use Rattle.xml.specs.Decoded.{cdata_decoded, text_decoded}
 use Rattle.xml.specs.Token.{XmlToken, start_tag, attribute, tag_end, empty_tag_end, end_tag, characters, cdata, skipped}
-use Rattle.ttree_junit.specs.Case.{case_of, event_fields, is_bare, level_of, outcome_of, span_fields, time_fields, with_cut, with_failure, with_printed, with_property, with_skip}
+use Rattle.ttree_junit.specs.Case.{bare_case_fields, case_end_fields, case_of, is_bare, level_of_outcome, outcome_of, time_fields, with_cut, with_failure, with_printed, with_property, with_skip}
 use Rattle.ttree_junit.specs.Element.{attribute_in, element_named, is_of_report, role_of}
 use Rattle.ttree_junit.specs.Failure.{failure_rows}
 use Rattle.ttree_junit.specs.Junit.{JunitState}
 use Rattle.ttree_junit.specs.Lines.{is_blank_text, printed_rows}
 use Rattle.ttree_junit.specs.Plain.{plain_calls}
-use Rattle.ttree_junit.specs.Seconds.{nanoseconds_of}
+use Rattle.ttree_junit.specs.Seconds.{seconds_as_nanoseconds}
 use Rattle.ttree_junit.specs.States.{TagState, with_attribute}
 use Rattle.ttree_junit.specs.declared.case.Outcome.{Outcome}
 use Rattle.ttree_junit.specs.declared.case.Outcome.TheVariants.{Passed, Failed, Skipped as WasSkipped, Unfinished}
@@ -65,15 +65,15 @@ abbrev pub called : Call → JunitState → JunitState
 called call s = record s { calls = s.calls ++ call ∷ [] }
 
 -- a span opens
-abbrev pub opened : List ℕ → List Field → Option Id → JunitState → JunitState
-opened name fields parent s =
+abbrev pub report_span_opened : List ℕ → List Field → Option Id → JunitState → JunitState
+report_span_opened name fields parent s =
     record (called (span_call s.moment name fields parent) s) { next = one_more s.next }
 
 abbrev pub evented : Level → List Field → Option Id → JunitState → JunitState
 evented level fields at s = called (event_call s.moment level fields at) s
 
-abbrev pub closed : Id → Option Id → JunitState → JunitState
-closed span parent s = called (close_call s.moment span parent) s
+abbrev pub report_span_closed : Id → Option Id → JunitState → JunitState
+report_span_closed span parent s = called (close_call s.moment span parent) s
 
 -- ---- what is innermost
 
@@ -112,7 +112,7 @@ is_in_class (Some class) name = bytes_eq class.name name
 is_in_class None name = false
 
 abbrev pub class_closed : Option Class → JunitState → JunitState
-class_closed (Some class) s = closed class.span (innermost_span s.suites) s
+class_closed (Some class) s = report_span_closed class.span (innermost_span s.suites) s
 class_closed None s = s
 
 -- the span of a class closes, if one is open
@@ -120,7 +120,7 @@ abbrev pub class_left : JunitState → JunitState
 class_left s = class_closed s.class (record s { class = None })
 
 abbrev pub class_opened : JunitState → JunitState
-class_opened s = record (opened s.case.classname [] (innermost_span s.suites) s) {
+class_opened s = record (report_span_opened s.case.classname [] (innermost_span s.suites) s) {
   class = Some (record { name = s.case.classname; span = id_of s.next });
 }
 
@@ -142,7 +142,7 @@ abbrev pub before_now : JunitState → Before
 before_now s = record { calls = length s.calls; next = s.next; failed = s.tally.failed }
 
 abbrev pub suite_named : List ℕ → Option ℕ → JunitState → JunitState
-suite_named name nanoseconds s = record (opened name [] (innermost_span s.suites) s) {
+suite_named name nanoseconds s = record (report_span_opened name [] (innermost_span s.suites) s) {
   suites = s.suites ++ (record {
     name = name;
     nanoseconds = nanoseconds;
@@ -155,7 +155,7 @@ suite_named name nanoseconds s = record (opened name [] (innermost_span s.suites
 abbrev pub suite_begun : JunitState → JunitState
 suite_begun s =
     suite_named (attribute_in (codes "name") s.tag.attributes)
-    (nanoseconds_of (attribute_in (codes "time") s.tag.attributes)) (class_left s)
+    (seconds_as_nanoseconds (attribute_in (codes "time") s.tag.attributes)) (class_left s)
 
 abbrev pub end_event : Suite → JunitState → JunitState
 end_event suite s =
@@ -179,7 +179,7 @@ suite_hidden suite s =
     record s { calls = take suite.before.calls s.calls; next = suite.before.next }
 
 abbrev pub shut : Suite → JunitState → JunitState
-shut suite s = closed suite.span (innermost_span s.suites) s
+shut suite s = report_span_closed suite.span (innermost_span s.suites) s
 
 -- a suite with a time ends with an event
 abbrev pub ended_with : Suite → JunitState → JunitState
@@ -210,13 +210,14 @@ counted_as Failed tally = record tally { failed = one_more tally.failed }
 counted_as WasSkipped tally = record tally { skipped = one_more tally.skipped }
 counted_as Unfinished tally = tally
 
-abbrev pub counted : JunitState → JunitState
-counted s = record s { tally = counted_as (outcome_of s.case) s.tally }
+abbrev pub case_counted : JunitState → JunitState
+case_counted s = record s { tally = counted_as (outcome_of s.case) s.tally }
 
 -- a bare case is an event
 abbrev pub event_shown : JunitState → JunitState
 event_shown s =
-    evented (level_of (outcome_of s.case)) (event_fields s.case) (case_span s.class s.suites) s
+    evented (level_of_outcome (outcome_of s.case)) (bare_case_fields s.case)
+    (case_span s.class s.suites) s
 
 abbrev pub row_call : Moment → Option Id → Row → Call
 row_call moment at row = event_call moment row.level (message_field row.text ∷ []) at
@@ -231,18 +232,18 @@ rows_shown span s =
 
 abbrev pub end_shown : Id → JunitState → JunitState
 end_shown span s =
-    evented (level_of (outcome_of s.case)) (span_fields s.case) (Some span) s
+    evented (level_of_outcome (outcome_of s.case)) (case_end_fields s.case) (Some span) s
 
 -- any other case is a span: its rows, and how it ended
-abbrev pub span_shown : JunitState → JunitState
-span_shown s =
-    closed (id_of s.next) (case_span s.class s.suites)
+abbrev pub case_span_shown : JunitState → JunitState
+case_span_shown s =
+    report_span_closed (id_of s.next) (case_span s.class s.suites)
     (end_shown (id_of s.next)
     (rows_shown (id_of s.next)
-    (opened s.case.name s.case.fields (case_span s.class s.suites) s)))
+    (report_span_opened s.case.name s.case.fields (case_span s.class s.suites) s)))
 
 abbrev pub case_shown : JunitState → JunitState
-case_shown s = if is_bare s.case then event_shown s else span_shown s
+case_shown s = if is_bare s.case then event_shown s else case_span_shown s
 
 abbrev pub is_fine : Outcome → Bool
 is_fine Passed = true
@@ -259,7 +260,7 @@ shown_unless_hidden s = if is_case_hidden s then s else case_shown (class_entere
 
 -- a case is counted, and shown in the span of its class
 abbrev pub case_ended : JunitState → JunitState
-case_ended s = shown_unless_hidden (counted (record s { in_case = false }))
+case_ended s = shown_unless_hidden (case_counted (record s { in_case = false }))
 
 -- ---- parts
 
@@ -308,8 +309,8 @@ output_ended s = output_of (record s { in_part = false })
 
 abbrev pub property_of : TagState → Field
 property_of tag = record {
-  name = shown (attribute_in (codes "name") tag.attributes);
-  value = shown (attribute_in (codes "value") tag.attributes);
+  name = shown_text (attribute_in (codes "name") tag.attributes);
+  value = shown_text (attribute_in (codes "value") tag.attributes);
 }
 
 abbrev pub recorded_in : Option Id → Field → JunitState → JunitState
@@ -371,8 +372,8 @@ element_begun s = begun_as (element_of s) (record s {
 })
 
 -- an element begins: that of the tag; in a part its contents begin a line
-abbrev pub begun : JunitState → JunitState
-begun s = element_begun (outside_shown s)
+abbrev pub next_element_begun : JunitState → JunitState
+next_element_begun s = element_begun (outside_shown s)
 
 abbrev pub ended_as : Element → JunitState → JunitState
 ended_as SuiteElement s = suite_ended s
@@ -389,8 +390,9 @@ ended_element (Some element) s = ended_as element s
 ended_element None s = s
 
 -- the innermost element ends
-abbrev pub ended : JunitState → JunitState
-ended s = ended_element (innermost s.elements) (record s { elements = outer s.elements })
+abbrev pub last_element_ended : JunitState → JunitState
+last_element_ended s =
+    ended_element (innermost s.elements) (record s { elements = outer s.elements })
 
 -- ---- tokens
 
@@ -401,9 +403,9 @@ tag_begun name s = record s { tag = record { name = name; attributes = [] } }
 abbrev pub taken : XmlToken → JunitState → JunitState
 taken (start_tag name) s = tag_begun name s
 taken (attribute name value) s = record s { tag = with_attribute name value s.tag }
-taken tag_end s = begun s
-taken empty_tag_end s = ended (begun s)
-taken (end_tag name) s = ended s
+taken tag_end s = next_element_begun s
+taken empty_tag_end s = last_element_ended (next_element_begun s)
+taken (end_tag name) s = last_element_ended s
 taken (characters run) s = text_added run s
 taken (cdata part) s = cdata_added part s
 taken skipped s = s
@@ -473,5 +475,5 @@ tallied s =
     else s
 
 -- what is open ends, and the last event counts the cases of a report
-unfoldable pub finished : JunitState → JunitState
-finished s = tallied (outside_shown (suites_closed (class_left (elements_cut s))))
+unfoldable pub report_finished : JunitState → JunitState
+report_finished s = tallied (outside_shown (suites_closed (class_left (elements_cut s))))

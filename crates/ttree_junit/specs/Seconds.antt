@@ -58,16 +58,17 @@ decimal whole part =
     (option_and_then (λ seconds. if_fits (seconds * 1_000_000_000)) (whole_of whole))
     else None
 
-abbrev pub is_point : ℕ → Bool
-is_point byte = byte == 46
+abbrev pub is_seconds_point : ℕ → Bool
+is_seconds_point byte = byte == 46
 
 abbrev pub has_point : List ℕ → Bool
-has_point text = nat_lt (position_or_len is_point text) (length text)
+has_point text = nat_lt (position_or_len is_seconds_point text) (length text)
 
 abbrev pub plain : List ℕ → Option ℕ
 plain text =
     if length text == 0 then None
-    else if has_point text then decimal (before_first is_point text) (after_first is_point text)
+    else if has_point text then decimal (before_first is_seconds_point text)
+    (after_first is_seconds_point text)
     else decimal text []
 
 -- a number over this power of ten
@@ -101,5 +102,5 @@ zero_or text (Some rest) = Some 0
 zero_or text None = unsigned_of text
 
 -- the nanoseconds of a number of seconds; a negative number counts as zero
-abbrev pub nanoseconds_of : List ℕ → Option ℕ
-nanoseconds_of text = zero_or text (after_mark (codes "-") text)
+abbrev pub seconds_as_nanoseconds : List ℕ → Option ℕ
+seconds_as_nanoseconds text = zero_or text (after_mark (codes "-") text)

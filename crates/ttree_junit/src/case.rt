@@ -1,7 +1,7 @@
 //! A test case.
 
 ghost use Rattle.std.specs.Prelude.{◌≡◌, ◌++◌, ◌∷◌, [], IfOk, OnOk, string_bytes};
-ghost use Rattle.ttree_junit.specs.Case.{case_of, end_fields, event_fields, is_bare, level_of, named, outcome_of, reason_fields, span_fields, time_fields, with_cut, with_failure, with_printed, with_property, with_skip, word_of};
+ghost use Rattle.ttree_junit.specs.Case.{bare_case_fields, case_end_fields, case_of, is_bare, level_of_outcome, outcome_fields, outcome_of, outcome_word, reason_fields, time_fields, with_cut, with_failure, with_printed, with_property, with_skip, word_and_name};
 
 use crate::element::is_off;
 use crate::failure::push_failure;
@@ -174,7 +174,7 @@ impl Case {
 
     // Returns the fields of the event of a bare case.
     pub(crate) fn event_fields(&self, alloc: Global) -> Result<Fields, AllocError>
-        ensures { IfOk result (λ fields. fields ≡ event_fields self.now) }
+        ensures { IfOk result (λ fields. fields ≡ bare_case_fields self.now) }
     {
         let text = named(alloc, word_of(self.outcome()), self.name())?;
         self.end_fields(alloc, text.as_str())
@@ -182,13 +182,13 @@ impl Case {
 
     // Returns the fields of the last event in the span of a case.
     pub(crate) fn span_fields(&self, alloc: Global) -> Result<Fields, AllocError>
-        ensures { IfOk result (λ fields. fields ≡ span_fields self.now) }
+        ensures { IfOk result (λ fields. fields ≡ case_end_fields self.now) }
     {
         self.end_fields(alloc, word_of(self.outcome()))
     }
 
     fn end_fields(&self, alloc: Global, message: &str) -> Result<Fields, AllocError>
-        ensures { IfOk result (λ fields. fields ≡ end_fields message.now self.now) }
+        ensures { IfOk result (λ fields. fields ≡ outcome_fields message.now self.now) }
     {
         let mut fields = Fields::one(alloc, message_field(alloc, message)?);
         fields.append(reason_fields(alloc, self.reason.as_str())?)?;
@@ -199,7 +199,7 @@ impl Case {
 
 // Returns the word for an outcome.
 fn word_of(outcome: Outcome) -> &'static str
-    ensures { result.now ≡ word_of outcome }
+    ensures { result.now ≡ outcome_word outcome }
 {
     match outcome {
         Outcome::Passed => "pass",
@@ -210,7 +210,7 @@ fn word_of(outcome: Outcome) -> &'static str
 }
 
 pub(crate) fn level_of(outcome: Outcome) -> Level
-    ensures { result ≡ level_of outcome }
+    ensures { result ≡ level_of_outcome outcome }
 {
     match outcome {
         Outcome::Passed => Level::Info,
@@ -220,7 +220,7 @@ pub(crate) fn level_of(outcome: Outcome) -> Level
 }
 
 fn named(alloc: Global, word: &str, name: &str) -> Result<String, AllocError>
-    ensures { IfOk result (λ text. string_bytes text ≡ named word.now name.now) }
+    ensures { IfOk result (λ text. string_bytes text ≡ word_and_name word.now name.now) }
 {
     let mut text = String::from_str(alloc, word)?;
     text.push_str(" ")?;

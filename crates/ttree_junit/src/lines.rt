@@ -1,7 +1,7 @@
 //! Printed lines as rows.
 
 ghost use Rattle.std.specs.Prelude.{◌≡◌, ◌++◌, ◌∷◌, [], IfOk, OnOk, option_map};
-ghost use Rattle.ttree_junit.specs.Lines.{after_line, head_of, is_blank_text, is_separator, kept_after, line_of, line_rows, printed_rows, reason_of};
+ghost use Rattle.ttree_junit.specs.Lines.{after_line, head_of, is_blank_text, is_separator, kept_after, line_rows, printed_rows, reason_of, text_first_line};
 
 use std::alloc::{AllocError, Global};
 use tracing_tree_base::style::Level;
@@ -73,7 +73,7 @@ fn push_line<'a>(
 
 // Returns the first line of a string, and what follows it.
 pub(crate) fn first_line(text: &str) -> (&str, &str)
-    ensures line { result.0.now ≡ line_of text.now }
+    ensures line { result.0.now ≡ text_first_line text.now }
     ensures others { result.1.now ≡ after_line text.now }
 {
     match text.split_once('\n') {

@@ -4,7 +4,7 @@ ghost use Rattle.std.specs.Prelude.{◌≡◌, ◌++◌, [], IfOk, OnOk, pos};
 ghost use Rattle.tracing_tree_spans.specs.Registry.Ids.{id_of};
 ghost use Rattle.tracing_tree_base.specs.Field.{whole_field};
 ghost use Rattle.xml.specs.Token.{token_view};
-ghost use Rattle.ttree_junit.specs.Reading.{added_outside, at_start, before_now, begun, called, case_begun, case_ended, case_span, cdata_added, class_entered, class_left, class_opened, closed, counted, element_begun, element_of, end_event, end_shown, ended, ended_as, ended_with, event_shown, evented, failure_ended, innermost_name, innermost_span, is_case_hidden, is_in_class, is_open, is_suite_hidden, opened, output_ended, output_shown, outside_shown, part_begun, property_added, property_of, row_calls, rows_in_suite, rows_shown, shown_unless_hidden, skip_ended, span_shown, suite_begun, suite_ended, suite_failed, suite_hidden, tag_begun, taken, text_added, wants_class};
+ghost use Rattle.ttree_junit.specs.Reading.{added_outside, at_start, before_now, called, case_begun, case_counted, case_ended, case_span, case_span_shown, cdata_added, class_entered, class_left, class_opened, element_begun, element_of, end_event, end_shown, ended_as, ended_with, event_shown, evented, failure_ended, innermost_name, innermost_span, is_case_hidden, is_in_class, is_open, is_suite_hidden, last_element_ended, next_element_begun, output_ended, output_shown, outside_shown, part_begun, property_added, property_of, report_span_closed, report_span_opened, row_calls, rows_in_suite, rows_shown, shown_unless_hidden, skip_ended, suite_begun, suite_ended, suite_failed, suite_hidden, tag_begun, taken, text_added, wants_class};
 
 mod ending;
 
@@ -213,7 +213,7 @@ impl Junit {
     }
 
     fn begin_and_end(&mut self) -> Result<(), AllocError>
-        ensures { OnOk result (self.new ≡ ended (begun self.old)) }
+        ensures { OnOk result (self.new ≡ last_element_ended (next_element_begun self.old)) }
     {
         self.begin()?;
         self.end()
@@ -252,7 +252,7 @@ impl Junit {
 
     // Opens the element of the tag.
     fn begin(&mut self) -> Result<(), AllocError>
-        ensures { OnOk result (self.new ≡ begun self.old) }
+        ensures { OnOk result (self.new ≡ next_element_begun self.old) }
     {
         self.show_outside()?;
         self.begin_element()
@@ -297,7 +297,7 @@ impl Junit {
 
     // Ends the innermost element.
     fn end(&mut self) -> Result<(), AllocError>
-        ensures { OnOk result (self.new ≡ ended self.old) }
+        ensures { OnOk result (self.new ≡ last_element_ended self.old) }
     {
         match self.elements.pop() {
             Some(element) => self.end_element(element),
@@ -349,7 +349,8 @@ impl Junit {
 
     // Opens a span, and returns its id.
     fn open(&mut self, name: &str, fields: Fields, parent: Option<Id>) -> Result<Id, AllocError>
-        ensures opened { OnOk result (self.new ≡ opened name.now fields parent self.old) }
+        ensures opened { OnOk result
+            (self.new ≡ report_span_opened name.now fields parent self.old) }
         ensures span { IfOk result (λ span. span ≡ id_of self.old.next) }
     {
         let call = span_call(self.alloc, self.moment, name, fields, parent)?;
@@ -367,7 +368,7 @@ impl Junit {
     }
 
     fn close(&mut self, span: Id, parent: Option<Id>) -> Result<(), AllocError>
-        ensures { OnOk result (self.new ≡ closed span parent self.old) }
+        ensures { OnOk result (self.new ≡ report_span_closed span parent self.old) }
     {
         Ok(self.calls.push(close_call(self.moment, span, parent))?)
     }
@@ -559,7 +560,7 @@ impl Junit {
     }
 
     fn count(&mut self)
-        ensures { self.new ≡ counted self.old }
+        ensures { self.new ≡ case_counted self.old }
     {
         match self.case.outcome() {
             Outcome::Passed => self.tally.passed = self.tally.passed.saturating_add(1),
@@ -580,7 +581,7 @@ impl Junit {
     }
 
     fn show_span(&mut self) -> Result<(), AllocError>
-        ensures { OnOk result (self.new ≡ span_shown self.old) }
+        ensures { OnOk result (self.new ≡ case_span_shown self.old) }
     {
         let name = Text::from_str(self.alloc, self.case.name())?;
         let fields = self.case.fields()?;

@@ -1,14 +1,14 @@
 //! How long a case or a suite took.
 
 ghost use Rattle.std.specs.Prelude.{◌≡◌, ◌≤◌};
-ghost use Rattle.ttree_junit.specs.Seconds.{after_three, all_digits, billionths, decimal, digit_in, nanoseconds_of, over_ten, plain, scaled, thousandths, unsigned_of, whole_from, whole_of};
+ghost use Rattle.ttree_junit.specs.Seconds.{after_three, all_digits, billionths, decimal, digit_in, over_ten, plain, scaled, seconds_as_nanoseconds, thousandths, unsigned_of, whole_from, whole_of};
 
 use ttree_source::marks::after_mark;
 
 // Returns the nanoseconds of a number of seconds, as `0.25`, `1,234.5` or `6.2e-05`. A number below
 // zero counts as zero.
 pub(crate) fn nanoseconds_of(text: &str) -> Option<u64>
-    ensures { result ≡ nanoseconds_of text.now }
+    ensures { result ≡ seconds_as_nanoseconds text.now }
 {
     match after_mark(text, "-") {
         Some(_) => Some(0),

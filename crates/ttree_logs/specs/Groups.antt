@@ -8,12 +8,12 @@ use Rattle.std.specs.Ordering.{nat_cmp}
 use Rattle.tracing_tree_base.specs.declared.context.Id.{Id}
 
 -- the span of the group with this key
-abbrev pub span_of : List ℕ → List (List ℕ × Id) → Option Id
-span_of key groups = lookup (is_at (slice_cmp nat_cmp key)) groups
+abbrev pub group_span : List ℕ → List (List ℕ × Id) → Option Id
+group_span key groups = lookup (is_at (slice_cmp nat_cmp key)) groups
 
 -- with this span for the group with this key
-abbrev pub with_span : List ℕ → Id → List (List ℕ × Id) → List (List ℕ × Id)
-with_span key id groups = insert_entry (slice_cmp nat_cmp) groups key id
+abbrev pub with_group_span : List ℕ → Id → List (List ℕ × Id) → List (List ℕ × Id)
+with_group_span key id groups = insert_entry (slice_cmp nat_cmp) groups key id
 
 -- each key as its bytes
 abbrev pub by_bytes : List (Vec ℕ Global × Id) → List (List ℕ × Id)

@@ -4,16 +4,16 @@ use Rattle.std.specs.List.{list_any}
 use Rattle.json.specs.Json.{Json, null, boolean, number, string, array, object, Members, no_members, member}
 use Rattle.tracing_tree_base.specs.declared.field.Field.{Field}
 use Rattle.ttree_source.specs.Marks.{begins}
-use Rattle.ttree_source.specs.Calls.{shown}
+use Rattle.ttree_source.specs.Calls.{shown_text}
 use Rattle.ttree_source.specs.JsonText.{json_text}
 
 -- a field with this value, in its drawn form
-abbrev pub field_of : List ℕ → List ℕ → List Field
-field_of name value = (record { name = shown name; value = value }) ∷ []
+abbrev pub drawn_field : List ℕ → List ℕ → List Field
+drawn_field name value = (record { name = shown_text name; value = value }) ∷ []
 
 -- an object without members is a field
 abbrev pub empty_fields : List ℕ → Members → List Field
-empty_fields name no_members = field_of name (codes "{}")
+empty_fields name no_members = drawn_field name (codes "{}")
 empty_fields name (member _ _ _) = []
 
 -- an object in an object has `.` between the keys
@@ -23,11 +23,11 @@ inner_name name key = name ++ codes "." ++ key
 -- a value of this name as fields
 abbrev mutual
   pub value_fields : List ℕ → Json → List Field
-  value_fields name null = field_of name (codes "null")
-  value_fields name (boolean b) = field_of name (if b then codes "true" else codes "false")
-  value_fields name (number text) = field_of name text
-  value_fields name (string text) = field_of name (shown text)
-  value_fields name (array items) = field_of name (shown (json_text (array items)))
+  value_fields name null = drawn_field name (codes "null")
+  value_fields name (boolean b) = drawn_field name (if b then codes "true" else codes "false")
+  value_fields name (number text) = drawn_field name text
+  value_fields name (string text) = drawn_field name (shown_text text)
+  value_fields name (array items) = drawn_field name (shown_text (json_text (array items)))
   value_fields name (object members) = empty_fields name members ++ inner_fields name members
 
   pub inner_fields : List ℕ → Members → List Field

@@ -39,16 +39,16 @@ group_keys =
 -- ---- words
 
 -- a word: a nonempty string, or a number as written
-abbrev pub word_of : Json → Option (List ℕ)
-word_of null = None
-word_of (boolean _) = None
-word_of (number text) = Some text
-word_of (string text) = if is_empty text then None else Some text
-word_of (array _) = None
-word_of (object _) = None
+abbrev pub log_word : Json → Option (List ℕ)
+log_word null = None
+log_word (boolean _) = None
+log_word (number text) = Some text
+log_word (string text) = if is_empty text then None else Some text
+log_word (array _) = None
+log_word (object _) = None
 
 abbrev pub word_at : List ℕ → Json → Option (List ℕ)
-word_at key value = option_and_then word_of (get key value)
+word_at key value = option_and_then log_word (get key value)
 
 -- the first of these keys that has a word
 abbrev pub first_key : List (List ℕ) → Json → Option (List ℕ)
@@ -61,17 +61,18 @@ first_word keys value = option_and_then (λ key. word_at key value) (first_key k
 
 -- ---- paths
 
-abbrev pub is_point : ℕ → Bool
-is_point byte = byte == 46
+abbrev pub is_key_point : ℕ → Bool
+is_key_point byte = byte == 46
 
 abbrev pub has_point : List ℕ → Bool
-has_point path = nat_lt (position_or_len is_point path) (length path)
+has_point path = nat_lt (position_or_len is_key_point path) (length path)
 
 -- the rest of a path after its first key, and what the object has at that key
 abbrev pub inner_of : List ℕ → Json → Option (List ℕ × Json)
 inner_of path value =
     if has_point path
-    then option_map (λ inner. (after_first is_point path, inner)) (get (before_first is_point path)
+    then option_map (λ inner. (after_first is_key_point path, inner))
+    (get (before_first is_key_point path)
     value)
     else None
 
@@ -143,11 +144,11 @@ level_of_name name =
     else if is_one_of warn_names name then Some Warn
     else low_level_of_name name
 
-abbrev pub level_named : List ℕ → Option Level
-level_named word = level_of_name (bare_level word)
+abbrev pub level_of_word : List ℕ → Option Level
+level_of_word word = level_of_name (bare_level word)
 
 abbrev pub level_at : List ℕ → Json → Option Level
-level_at key value = option_and_then level_named (word_at key value)
+level_at key value = option_and_then level_of_word (word_at key value)
 
 -- the key of a line's level
 abbrev pub level_key : Json → Option (List ℕ)
@@ -157,8 +158,8 @@ level_key value = if_level (first_key level_keys value) where
   if_level None = None
 
 -- the level of a line; INFO if the line has no level
-abbrev pub level_in : Json → Level
-level_in value = unwrap_or (option_and_then (λ key. level_at key value) (level_key value)) Info
+abbrev pub line_level : Json → Level
+line_level value = unwrap_or (option_and_then (λ key. level_at key value) (level_key value)) Info
 
 -- ---- time
 
@@ -251,7 +252,7 @@ message_fields (Some text) = message_field text ∷ []
 message_fields None = []
 
 -- the fields of a line's event: its message, and what else it has
-abbrev pub event_fields : Option (List ℕ) → Json → List Field
-event_fields asked value =
+abbrev pub log_event_fields : Option (List ℕ) → Json → List Field
+log_event_fields asked value =
     message_fields (first_word message_keys value)
     ++ members_fields (used_keys asked value) (unwrap_or (as_object value) no_members)

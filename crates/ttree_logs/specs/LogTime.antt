@@ -51,27 +51,28 @@ nanoseconds whole part =
     else if nat_lt whole 100_000_000_000_000_000 then if_fits (whole * 1000 + part / 1_000_000)
     else Some whole
 
-abbrev pub is_point : ℕ → Bool
-is_point byte = byte == 46
+abbrev pub is_fraction_point : ℕ → Bool
+is_fraction_point byte = byte == 46
 
 abbrev pub has_point : List ℕ → Bool
-has_point text = nat_lt (position_or_len is_point text) (length text)
+has_point text = nat_lt (position_or_len is_fraction_point text) (length text)
 
-abbrev pub decimal_of : List ℕ → List ℕ → Option ℕ
-decimal_of before after =
+abbrev pub decimal_nanoseconds : List ℕ → List ℕ → Option ℕ
+decimal_nanoseconds before after =
     if is_digits after
     then option_and_then (λ whole. nanoseconds whole (billionths after)) (whole_of before)
     else None
 
 -- the nanoseconds since 1970 of a number: only digits, or digits, a point and digits
-abbrev pub nanoseconds_of : List ℕ → Option ℕ
-nanoseconds_of text =
-    if has_point text then decimal_of (before_first is_point text) (after_first is_point text)
+abbrev pub epoch_nanoseconds : List ℕ → Option ℕ
+epoch_nanoseconds text =
+    if has_point text then decimal_nanoseconds (before_first is_fraction_point text)
+    (after_first is_fraction_point text)
     else option_and_then (λ whole. nanoseconds whole 0) (whole_of text)
 
 -- the moment that a number encodes
 abbrev pub moment_of_number : List ℕ → Option Moment
-moment_of_number text = option_map (λ n. moment_at (pos n)) (nanoseconds_of text)
+moment_of_number text = option_map (λ n. moment_at (pos n)) (epoch_nanoseconds text)
 
 abbrev pub moment_or_text : Option Moment → List ℕ → Moment → Moment
 moment_or_text (Some moment) word before = moment
@@ -79,7 +80,7 @@ moment_or_text None word before = moment_after (Some word) before
 
 -- a word encodes a moment
 abbrev pub is_time : List ℕ → Bool
-is_time word = is_some (nanoseconds_of word) || is_some (moment_of word)
+is_time word = is_some (epoch_nanoseconds word) || is_some (moment_of word)
 
 -- The moment that a word encodes, as a number or in the format of RFC 3339; that of the line before
 -- if it encodes no moment.

@@ -1,7 +1,7 @@
 //! The spans of groups.
 
 ghost use Rattle.std.specs.Prelude.{◌≡◌, [], IfOk, OnOk, string_bytes};
-ghost use Rattle.ttree_logs.specs.Groups.{span_of, with_span};
+ghost use Rattle.ttree_logs.specs.Groups.{group_span, with_group_span};
 
 use std::alloc::{AllocError, Global};
 use std::collections::BTreeMap;
@@ -35,14 +35,14 @@ impl Groups {
 
     // Returns the span of the group with this key.
     pub(crate) fn span_of(&self, key: &[u8]) -> Option<Id>
-        ensures { result ≡ span_of key.now self.now }
+        ensures { result ≡ group_span key.now self.now }
     {
         self.entries.get(key).copied()
     }
 
     // Keeps the span of the group with this key.
     pub(crate) fn put(&mut self, key: Vec<u8>, span: Id) -> Result<(), AllocError>
-        ensures { OnOk result (self.new ≡ with_span key.items span self.old) }
+        ensures { OnOk result (self.new ≡ with_group_span key.items span self.old) }
     {
         self.entries.insert(key, span)?;
         Ok(())

@@ -2,7 +2,7 @@
 
 ghost use Rattle.std.specs.Prelude.{◌≡◌, [], IfOk, OnOk, option_map};
 ghost use Rattle.json.specs.Value.{value_view};
-ghost use Rattle.ttree_logs.specs.Logs.{logs_problem, arrived, close_of, entered, event_emitted, group_fields, grouped_by, id_field, line_emitted, located, no_group, object_emitted, opened, placed, plain_emitted, process_fields};
+ghost use Rattle.ttree_logs.specs.Logs.{logs_problem, arrived, close_of, group_entered, log_event_emitted, group_fields, grouped_by, id_field, log_line_emitted, located, no_group, object_emitted, group_opened, at_line_time, plain_emitted, process_fields};
 ghost use Rattle.ttree_logs.specs.LogLine.{group_in, group_key};
 
 mod fields;
@@ -108,7 +108,7 @@ impl<'k> Logs<'k> {
     // Takes a line that is this value, if it is JSON.
     fn take_line(&mut self, line: &str, value: Option<&Value<'_>>) -> Result<(), AllocError>
         ensures { OnOk result (self.new
-            ≡ line_emitted line.now (option_map (λ v. value_view v.now) value.entry) self.old) }
+            ≡ log_line_emitted line.now (option_map (λ v. value_view v.now) value.entry) self.old) }
     {
         match value {
             Some(value) if is_object(value) => self.take_object(value),
@@ -126,7 +126,7 @@ impl<'k> Logs<'k> {
 
     // Goes on to the moment of a line.
     fn place(&mut self, value: &Value<'_>)
-        ensures { self.new ≡ placed (value_view value.now) self.old }
+        ensures { self.new ≡ at_line_time (value_view value.now) self.old }
     {
         self.moment = moment_in(value, &self.moment);
     }
@@ -154,7 +154,7 @@ impl<'k> Logs<'k> {
 
     // Comes to the span of a group, which opens unless it is open.
     fn enter(&mut self, group: &Group<'_>) -> Result<(), AllocError>
-        ensures { OnOk result (self.new ≡ entered group.now self.old) }
+        ensures { OnOk result (self.new ≡ group_entered group.now self.old) }
     {
         let key = group_key(self.alloc, group)?;
         match self.groups.span_of(key.as_slice()) {
@@ -169,7 +169,7 @@ impl<'k> Logs<'k> {
     // Opens the span of a group.
     fn open(&mut self, key: Vec<u8>, group: &Group<'_>) -> Result<(), AllocError>
         requires { key.items ≡ group_key group.now }
-        ensures { OnOk result (self.new ≡ opened group.now self.old) }
+        ensures { OnOk result (self.new ≡ group_opened group.now self.old) }
     {
         let fields = group_fields(self.alloc, group)?;
         let call = span_call(self.alloc, self.moment, group.name, fields, None)?;
@@ -182,7 +182,7 @@ impl<'k> Logs<'k> {
     }
 
     fn push_event(&mut self, value: &Value<'_>) -> Result<(), AllocError>
-        ensures { OnOk result (self.new ≡ event_emitted (value_view value.now) self.old) }
+        ensures { OnOk result (self.new ≡ log_event_emitted (value_view value.now) self.old) }
     {
         let fields = event_fields(self.alloc, self.asked, value)?;
         let call = event_call(self.alloc, self.moment, level_in(value), fields, self.at)?;

@@ -5,8 +5,8 @@ use Rattle.json.specs.Json.{Json, boolean, number, string, array, object, no_ite
 use Rattle.tracing_tree_base.specs.declared.style.Level.TheVariants.{Trace, Debug, Info, Warn, Error}
 use Rattle.ttree_otlp.specs.AnyValue.{any_text}
 use Rattle.ttree_otlp.specs.Draw.{kind_text}
-use Rattle.ttree_otlp.specs.Item.{above_of, number_of}
-use Rattle.ttree_otlp.specs.Named.{has_failed, kind_at, level_of}
+use Rattle.ttree_otlp.specs.Item.{above_of, id_number}
+use Rattle.ttree_otlp.specs.Named.{kind_at, level_of_severity, status_is_error}
 use Rattle.ttree_otlp.specs.Read.{count_at, id_of}
 
 -- {"key": value}
@@ -31,15 +31,15 @@ time_of_word : count_at (codes "kind") (one (codes "kind") (string (codes "-3"))
 time_of_word = refl
 
 -- levels
-levels : (level_of 0 ≡ Info) × (level_of 4 ≡ Trace) × (level_of 8 ≡ Debug) × (level_of 12 ≡ Info) × (level_of 16 ≡ Warn) × (level_of 17 ≡ Error)
+levels : (level_of_severity 0 ≡ Info) × (level_of_severity 4 ≡ Trace) × (level_of_severity 8 ≡ Debug) × (level_of_severity 12 ≡ Info) × (level_of_severity 16 ≡ Warn) × (level_of_severity 17 ≡ Error)
 levels = (refl, refl, refl, refl, refl, refl)
 
 -- a status with code 2 is a failure
-failure : (has_failed (one (codes "code") (number (codes "2"))) ≡ true) × (has_failed (one (codes "code") (number (codes "1"))) ≡ false)
+failure : (status_is_error (one (codes "code") (number (codes "2"))) ≡ true) × (status_is_error (one (codes "code") (number (codes "1"))) ≡ false)
 failure = (refl, refl)
 
 -- names of enumerations mean their numbers
-names : (has_failed (one (codes "code") (string (codes "STATUS_CODE_ERROR"))) ≡ true) × (kind_at (one (codes "kind") (string (codes "SPAN_KIND_SERVER"))) ≡ 2)
+names : (status_is_error (one (codes "code") (string (codes "STATUS_CODE_ERROR"))) ≡ true) × (kind_at (one (codes "kind") (string (codes "SPAN_KIND_SERVER"))) ≡ 2)
 names = (refl, refl)
 
 -- a span that is its own parent is a root
@@ -50,7 +50,7 @@ kinds : (kind_text 2 ≡ codes "server") × (kind_text 1 ≡ [])
 kinds = (refl, refl)
 
 -- ids are ordered by their digits
-order_of_ids : number_of (codes "0ff") ≡ 255
+order_of_ids : id_number (codes "0ff") ≡ 255
 order_of_ids = refl
 
 -- values

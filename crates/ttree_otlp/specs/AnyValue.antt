@@ -19,8 +19,8 @@ quoted_char c =
 abbrev pub quoted_chars : List ℕ → List ℕ
 quoted_chars text = flat_map quoted_char (chars text)
 
-abbrev pub quoted : List ℕ → List ℕ
-quoted text = codes "\"" ++ quoted_chars text ++ codes "\""
+abbrev pub quoted_value : List ℕ → List ℕ
+quoted_value text = codes "\"" ++ quoted_chars text ++ codes "\""
 
 -- a comma before all but the first
 abbrev pub separator : Bool → List ℕ
@@ -42,13 +42,13 @@ abbrev pub scalar_text : Bool → Json → List ℕ
 scalar_text has_quotes null = codes "null"
 scalar_text has_quotes (boolean b) = if b then codes "true" else codes "false"
 scalar_text has_quotes (number text) = text
-scalar_text has_quotes (string text) = if has_quotes then quoted text else text
+scalar_text has_quotes (string text) = if has_quotes then quoted_value text else text
 scalar_text has_quotes (array _) = codes "[..]"
 scalar_text has_quotes (object _) = codes "{..}"
 
 -- the key of an entry of a list of keys and values
 abbrev pub key_text : Json → List ℕ
-key_text entry = quoted (unwrap_or (text_at (codes "key") entry) []) ++ codes ":"
+key_text entry = quoted_value (unwrap_or (text_at (codes "key") entry) []) ++ codes ":"
 
 -- A value as JSON: the first member with a known key says what it is, and one without is null. In a
 -- list of keys and values (`with_keys`) an entry has its value at `value`.

@@ -20,12 +20,12 @@ is_within levels (Some depth) = nat_lt levels depth
 is_within levels None = true
 
 -- a span that hasn't ended isn't known to be short
-abbrev pub is_long : ℕ → ℕ → ℕ → Bool
-is_long min_level start end = end == 0 || nat_le min_level (end - start)
+abbrev pub is_long_span : ℕ → ℕ → ℕ → Bool
+is_long_span min_level start end = end == 0 || nat_le min_level (end - start)
 
 abbrev pub lasts_as : Shape → ℕ → Row → Bool
 lasts_as (Trace id) min_level row = false
-lasts_as (Span span) min_level row = is_long min_level row.item.time span.end
+lasts_as (Span span) min_level row = is_long_span min_level row.item.time span.end
 lasts_as (Note note) min_level row = nat_lt row.depth 2
 lasts_as (LeftOut count) min_level row = false
 
@@ -74,8 +74,8 @@ count_with depth count (row ∷ others) =
     then count_with depth (sum_of count (count_as row.item.shape)) others else count
 
 -- the place of a row whose spans are left out, and how many these are
-abbrev pub left_out : ℕ → Row → Row
-left_out count row = record row { item = record row.item { shape = LeftOut count } }
+abbrev pub left_out_row : ℕ → Row → Row
+left_out_row count row = record row { item = record row.item { shape = LeftOut count } }
 
 -- ---- the rows that are drawn
 
@@ -84,7 +84,7 @@ left_out count row = record row { item = record row.item { shape = LeftOut count
 abbrev pub drawn_with : Bool → Row → List Row → List Row
 drawn_with is_drawn row others =
     if is_drawn then row ∷ others
-    else left_out (count_with row.depth (count_as row.item.shape) others) row
+    else left_out_row (count_with row.depth (count_as row.item.shape) others) row
     ∷ without_nested row.depth others
 
 abbrev pub drawn : Cut → List Row → List Row

@@ -13,7 +13,7 @@ use Rattle.ttree_source.specs.Moments.{moment_at}
 use Rattle.ttree_source.specs.Calls.{close_call, event_call, message_field, span_call}
 use Rattle.ttree_source.specs.Length.{length_text}
 use Rattle.ttree_otlp.specs.Cut.{sum_of}
-use Rattle.ttree_otlp.specs.Read.{field_of}
+use Rattle.ttree_otlp.specs.Read.{named_event_field}
 use Rattle.ttree_otlp.specs.declared.draw.Frame.{Frame}
 use Rattle.ttree_otlp.specs.declared.item.Item.{Item}
 use Rattle.ttree_otlp.specs.declared.item.Note.{Note}
@@ -33,8 +33,8 @@ pub record TreeState : Type 0 where
 
 -- ---- what is open
 
-abbrev pub emitted : Call → TreeState → TreeState
-emitted call s = record s { calls = s.calls ++ call ∷ [] }
+abbrev pub row_call_emitted : Call → TreeState → TreeState
+row_call_emitted call s = record s { calls = s.calls ++ call ∷ [] }
 
 -- a row without a time happens when the row before it did
 abbrev pub at_time : ℕ → TreeState → TreeState
@@ -52,11 +52,11 @@ abbrev pub pushed : Frame → TreeState → TreeState
 pushed frame s = record s { frames = frame ∷ s.frames }
 
 -- a span opens in the innermost one
-abbrev pub opened : List ℕ → List Field → ℕ → List ℕ → TreeState → TreeState
-opened name fields end service s =
+abbrev pub frame_opened : List ℕ → List Field → ℕ → List ℕ → TreeState → TreeState
+frame_opened name fields end service s =
     let above = id_on_top s.frames in
     pushed (record { id = id_of s.next; above = above; end = end; service = service; left = 0 })
-    (record (emitted (span_call s.moment name fields above) s) { next = one_more s.next })
+    (record (row_call_emitted (span_call s.moment name fields above) s) { next = one_more s.next })
 
 -- ---- spans that are left out
 
@@ -73,7 +73,7 @@ left_counted count s = left_counted_in s.frames count s
 abbrev pub left_emitted : ℕ → Option Id → TreeState → TreeState
 left_emitted count above s =
     if count == 0 then s
-    else emitted
+    else row_call_emitted
     (event_call s.moment Info
     (message_field (codes "left out") ∷ whole_field (codes "spans") (pos count) ∷ []) above) s
 
@@ -83,7 +83,7 @@ left_emitted count above s =
 abbrev pub service_fields : List ℕ → List ℕ → List Field
 service_fields above service =
     if is_empty service || bytes_eq service above then []
-    else field_of (codes "service") service ∷ []
+    else named_event_field (codes "service") service ∷ []
 
 abbrev pub kind_text : ℕ → List ℕ
 kind_text kind =
@@ -95,7 +95,7 @@ kind_text kind =
 
 -- a field, unless it is empty
 abbrev pub field_if : List ℕ → List ℕ → List Field
-field_if name text = if is_empty text then [] else field_of name text ∷ []
+field_if name text = if is_empty text then [] else named_event_field name text ∷ []
 
 -- the parent of a span that isn't nested in one
 abbrev pub parent_fields : List ℕ → List ℕ → List Field
@@ -109,20 +109,21 @@ abbrev pub time_fields : ℕ → ℕ → List Field
 time_fields start end = if end == 0 then [] else time_field (end - start) ∷ []
 
 -- what the row of a span shows before its attributes
-abbrev pub span_fields : List Field → List Field → List Field → ℕ → List Field
-span_fields service time parent kind =
+abbrev pub leading_fields : List Field → List Field → List Field → ℕ → List Field
+leading_fields service time parent kind =
     ((service ++ time) ++ parent) ++ field_if (codes "kind") (kind_text kind)
 
 -- a span opens in the innermost one; one that isn't nested in a span of the input shows its parent
-abbrev pub span_shown : List ℕ → ℕ → Span → TreeState → TreeState
-span_shown above start span s =
+abbrev pub input_span_shown : List ℕ → ℕ → Span → TreeState → TreeState
+input_span_shown above start span s =
     let fields =
-    span_fields (service_fields (service_on_top s.frames) span.service) (time_fields start span.end)
+    leading_fields (service_fields (service_on_top s.frames) span.service)
+    (time_fields start span.end)
     (parent_fields above span.parent) span.kind in
-    opened span.name (fields ++ span.fields) span.end span.service s
+    frame_opened span.name (fields ++ span.fields) span.end span.service s
 
 abbrev pub trace_shown : List ℕ → TreeState → TreeState
-trace_shown id s = opened (codes "trace") (field_of (codes "id") id ∷ []) 0 [] s
+trace_shown id s = frame_opened (codes "trace") (named_event_field (codes "id") id ∷ []) 0 [] s
 
 abbrev pub note_fields : Note → List ℕ → List Field
 note_fields note service =
@@ -130,12 +131,12 @@ note_fields note service =
 
 abbrev pub note_shown : Note → TreeState → TreeState
 note_shown note s =
-    emitted (event_call s.moment note.level (note_fields note (service_on_top s.frames))
+    row_call_emitted (event_call s.moment note.level (note_fields note (service_on_top s.frames))
     (id_on_top s.frames)) s
 
 abbrev pub row_shown_as : Shape → Item → TreeState → TreeState
 row_shown_as (Trace id) item s = trace_shown id s
-row_shown_as (OfSpan span) item s = span_shown item.above item.time span s
+row_shown_as (OfSpan span) item s = input_span_shown item.above item.time span s
 row_shown_as (OfNote note) item s = note_shown note s
 row_shown_as (LeftOut count) item s = left_counted count s
 
@@ -145,14 +146,14 @@ row_shown item s = row_shown_as item.shape item (at_time item.time s)
 -- ---- the drawing
 
 -- A span closes at its end. One that hasn't ended, and a trace, close when their last row does.
-abbrev pub closed : Frame → TreeState → TreeState
-closed frame s =
+abbrev pub frame_closed : Frame → TreeState → TreeState
+frame_closed frame s =
     let ended = left_emitted frame.left (Some frame.id) (at_time frame.end s) in
-    emitted (close_call ended.moment frame.id frame.above) ended
+    row_call_emitted (close_call ended.moment frame.id frame.above) ended
 
 abbrev pub closed_as : List Frame → TreeState → TreeState
 closed_as [] s = s
-closed_as (frame ∷ below) s = closed frame (record s { frames = below })
+closed_as (frame ∷ below) s = frame_closed frame (record s { frames = below })
 
 abbrev pub closed_one : TreeState → TreeState
 closed_one s = closed_as s.frames s
@@ -178,9 +179,9 @@ begun_tree next moment =
     record { next = next; moment = moment; frames = []; left = 0; calls = [] }
 
 -- all that is open closes, and what was left out at the root is counted last
-abbrev pub finished : TreeState → TreeState
-finished s = let closed = closed_to 0 s in left_emitted closed.left None closed
+abbrev pub rows_finished : TreeState → TreeState
+rows_finished s = let closed = closed_to 0 s in left_emitted closed.left None closed
 
 -- the calls that draw rows
 abbrev pub calls_of_rows : ℕ → Moment → List Row → List Call
-calls_of_rows next moment rows = (finished (rows_drawn rows (begun_tree next moment))).calls
+calls_of_rows next moment rows = (rows_finished (rows_drawn rows (begun_tree next moment))).calls

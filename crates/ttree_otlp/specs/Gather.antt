@@ -8,9 +8,9 @@ use Rattle.json.specs.Find.{as_object, get}
 use Rattle.ttree_source.specs.Blanks.{first_byte}
 use Rattle.ttree_source.specs.Counts.{one_more}
 use Rattle.ttree_source.specs.Marks.{is_empty}
-use Rattle.ttree_otlp.specs.Item.{above_of, event_note, failed_note, has_body, link_note, log_note, log_time, number_of, span_of, unfinished_note}
+use Rattle.ttree_otlp.specs.Item.{above_of, event_note, failed_note, has_body, id_number, link_note, log_note, log_time, span_read, unfinished_note}
 use Rattle.ttree_otlp.specs.Keyed.{key_of, kept_at, with_kept}
-use Rattle.ttree_otlp.specs.Named.{has_failed}
+use Rattle.ttree_otlp.specs.Named.{status_is_error}
 use Rattle.ttree_otlp.specs.Read.{count_at, id_at, items_at, service_in}
 use Rattle.ttree_otlp.specs.declared.item.Item.{Item}
 use Rattle.ttree_otlp.specs.declared.item.Place.{Place}
@@ -39,22 +39,22 @@ rank_of (Note note) = 0
 rank_of (LeftOut count) = 0
 
 abbrev pub number_in : Shape → ℕ
-number_in (Trace id) = number_of id
-number_in (Span span) = number_of span.id
+number_in (Trace id) = id_number id
+number_in (Span span) = id_number span.id
 number_in (Note note) = 0
 number_in (LeftOut count) = 0
 
-abbrev pub place_of : ℕ → Shape → ℕ → Place
-place_of order shape index =
+abbrev pub row_place : ℕ → Shape → ℕ → Place
+row_place order shape index =
     record { time = order; rank = rank_of shape; number = number_in shape; index = index }
 
 -- one row more, nested in this span of this trace
-abbrev pub added : List ℕ → List ℕ → ℕ → ℕ → Shape → GatheredState → GatheredState
-added trace above order time shape s = record s {
+abbrev pub row_gathered : List ℕ → List ℕ → ℕ → ℕ → Shape → GatheredState → GatheredState
+row_gathered trace above order time shape s = record s {
   items = s.items ++ (record {
     trace = trace;
     above = above;
-    place = place_of order shape (length s.items);
+    place = row_place order shape (length s.items);
     time = time;
     shape = shape;
   }) ∷ [];
@@ -66,7 +66,7 @@ note_known key time s = record s { known = with_kept key time s.known }
 abbrev pub trace_seen_as : Option ℕ → List ℕ → ℕ → GatheredState → GatheredState
 trace_seen_as (Some earliest) trace time s = note_known (key_of trace []) (min earliest time) s
 trace_seen_as None trace time s =
-    added [] [] time time (Trace trace) (note_known (key_of trace []) time s)
+    row_gathered [] [] time time (Trace trace) (note_known (key_of trace []) time s)
 
 -- something happened in a trace at a time; the trace is a row at the root
 abbrev pub trace_seen : List ℕ → ℕ → GatheredState → GatheredState
@@ -78,13 +78,14 @@ trace_seen trace time s = trace_seen_as (kept_at (key_of trace []) s.known) trac
 abbrev pub links_taken : List ℕ → List ℕ → ℕ → Items → GatheredState → GatheredState
 links_taken trace span time no_items s = s
 links_taken trace span time (item value others) s =
-    links_taken trace span time others (added trace span 0 time (Note (link_note s.service value))
+    links_taken trace span time others
+    (row_gathered trace span 0 time (Note (link_note s.service value))
     s)
 
 abbrev pub event_taken : List ℕ → List ℕ → Json → GatheredState → GatheredState
 event_taken trace span value s =
     let time = count_at (codes "timeUnixNano") value in
-    added trace span time time (Note (event_note s.service value)) s
+    row_gathered trace span time time (Note (event_note s.service value)) s
 
 abbrev pub events_taken : List ℕ → List ℕ → Items → GatheredState → GatheredState
 events_taken trace span no_items s = s
@@ -94,14 +95,15 @@ events_taken trace span (item value others) s =
 -- a span without an end is unfinished
 abbrev pub end_taken : List ℕ → List ℕ → ℕ → GatheredState → GatheredState
 end_taken trace span end s =
-    if end == 0 then added trace span (2 ^ 64 - 1) 0 (Note (unfinished_note s.service)) s else s
+    if end == 0 then row_gathered trace span (2 ^ 64 - 1) 0
+    (Note (unfinished_note s.service)) s else s
 
 -- a failure comes last in a span
 abbrev pub status_taken : List ℕ → List ℕ → ℕ → Option Json → GatheredState → GatheredState
 status_taken trace span end None s = s
 status_taken trace span end (Some status) s =
-    if has_failed status
-    then added trace span (2 ^ 64 - 1) end (Note (failed_note s.service status)) s else s
+    if status_is_error status
+    then row_gathered trace span (2 ^ 64 - 1) end (Note (failed_note s.service status)) s else s
 
 -- a span without an id, or without that of its trace, is skipped
 abbrev pub lost : GatheredState → GatheredState
@@ -120,8 +122,8 @@ notes_taken trace span value s =
 abbrev pub span_added : List ℕ → List ℕ → Json → GatheredState → GatheredState
 span_added trace id value s =
     let start = count_at (codes "startTimeUnixNano") value in
-    added trace (above_of id (id_at (codes "parentSpanId") value)) start start
-    (Span (span_of s.service value))
+    row_gathered trace (above_of id (id_at (codes "parentSpanId") value)) start start
+    (Span (span_read s.service value))
     (notes_taken trace id value (note_known (key_of trace id) start (trace_seen trace start s)))
 
 abbrev pub span_taken : Json → GatheredState → GatheredState
@@ -138,7 +140,7 @@ spans_taken (item value others) s = spans_taken others (span_taken value s)
 
 abbrev pub log_added : List ℕ → List ℕ → Json → GatheredState → GatheredState
 log_added trace span value s =
-    added trace span (log_time value) (log_time value) (Note (log_note s.service value)) s
+    row_gathered trace span (log_time value) (log_time value) (Note (log_note s.service value)) s
 
 -- a log without a trace is at the root
 abbrev pub log_taken : Json → GatheredState → GatheredState
@@ -206,15 +208,20 @@ line_taken_as None line s = s
 line_taken_as (Some byte) line s = value_taken (document line) s
 
 -- a blank line says nothing
-abbrev pub line_taken : List ℕ → GatheredState → GatheredState
-line_taken line s = line_taken_as (first_byte line) line (next_line s)
+abbrev pub otlp_line_taken : List ℕ → GatheredState → GatheredState
+otlp_line_taken line s = line_taken_as (first_byte line) line (next_line s)
 
 abbrev pub lines_taken : List (List ℕ) → GatheredState → GatheredState
 lines_taken [] s = s
-lines_taken (line ∷ others) s = lines_taken others (line_taken line s)
+lines_taken (line ∷ others) s = lines_taken others (otlp_line_taken line s)
+
+-- an input that is one value; any other leaves what was gathered unchanged
+abbrev pub whole_taken : Option Json → GatheredState → GatheredState
+whole_taken (Some value) s = value_taken (Some value) (next_line s)
+whole_taken None s = s
 
 abbrev pub text_taken_as : Option Json → List ℕ → GatheredState → GatheredState
-text_taken_as (Some value) text s = value_taken (Some value) (next_line s)
+text_taken_as (Some value) text s = whole_taken (Some value) s
 text_taken_as None text s = lines_taken (lines text) s
 
 -- an input is one value, which may take several lines; otherwise each line is a value
@@ -223,19 +230,20 @@ gathered_in text = text_taken_as (document text) text nothing_gathered
 
 -- ---- the spans in which rows are nested
 
-abbrev pub timed : Option ℕ → Item → Item
-timed (Some time) row = record row { time = time; place = record row.place { time = time } }
-timed None row = row
+abbrev pub at_earliest : Option ℕ → Item → Item
+at_earliest (Some time) row = record row { time = time; place = record row.place { time = time } }
+at_earliest None row = row
 
-abbrev pub held : Option ℕ → Item → Item
-held (Some time) row = row
-held None row = record row { above = [] }
+abbrev pub in_known_span : Option ℕ → Item → Item
+in_known_span (Some time) row = row
+in_known_span None row = record row { above = [] }
 
 abbrev pub resolved_as : Shape → List (List ℕ × ℕ) → Item → Item
-resolved_as (Trace id) known row = timed (kept_at (key_of id []) known) row
-resolved_as (Span span) known row = held (kept_at (key_of row.trace row.above) known) row
-resolved_as (Note note) known row = held (kept_at (key_of row.trace row.above) known) row
-resolved_as (LeftOut count) known row = held (kept_at (key_of row.trace row.above) known) row
+resolved_as (Trace id) known row = at_earliest (kept_at (key_of id []) known) row
+resolved_as (Span span) known row = in_known_span (kept_at (key_of row.trace row.above) known) row
+resolved_as (Note note) known row = in_known_span (kept_at (key_of row.trace row.above) known) row
+resolved_as (LeftOut count) known row =
+    in_known_span (kept_at (key_of row.trace row.above) known) row
 
 -- A trace is a row at its earliest time. A row whose span is unknown is nested in the trace.
 abbrev pub resolved : List (List ℕ × ℕ) → Item → Item

@@ -9,7 +9,7 @@ use Rattle.ttree_source.specs.Marks.{is_empty}
 use Rattle.ttree_source.specs.Calls.{message_field}
 use Rattle.ttree_otlp.specs.AnyValue.{any_text}
 use Rattle.ttree_otlp.specs.Named.{kind_at, level_at}
-use Rattle.ttree_otlp.specs.Read.{attributes_in, count_at, field_of, id_at, string_at}
+use Rattle.ttree_otlp.specs.Read.{attributes_in, count_at, id_at, named_event_field, string_at}
 use Rattle.ttree_otlp.specs.declared.item.Note.{Note}
 use Rattle.ttree_otlp.specs.declared.item.Span.{Span}
 
@@ -63,14 +63,15 @@ abbrev pub link_note : List ℕ → Json → Note
 link_note service value = record {
   level = Info;
   message =
-      message_field (codes "link") ∷ field_of (codes "trace") (id_at (codes "traceId") value)
-      ∷ field_of (codes "span") (id_at (codes "spanId") value) ∷ [];
+      message_field (codes "link")
+      ∷ named_event_field (codes "trace") (id_at (codes "traceId") value)
+      ∷ named_event_field (codes "span") (id_at (codes "spanId") value) ∷ [];
   service = service;
   fields = attributes_in true value;
 }
 
 abbrev pub reason_fields : List ℕ → List Field
-reason_fields text = if is_empty text then [] else field_of (codes "message") text ∷ []
+reason_fields text = if is_empty text then [] else named_event_field (codes "message") text ∷ []
 
 -- the last row of a span whose status is that it failed
 abbrev pub failed_note : List ℕ → Json → Note
@@ -92,8 +93,8 @@ unfinished_note service = record {
 
 -- ---- spans
 
-abbrev pub span_of : List ℕ → Json → Span
-span_of service value = record {
+abbrev pub span_read : List ℕ → Json → Span
+span_read service value = record {
   id = id_at (codes "spanId") value;
   parent = id_at (codes "parentSpanId") value;
   name = string_at (codes "name") value;
@@ -124,5 +125,5 @@ number_from sum [] = sum
 number_from sum (byte ∷ others) = number_from (digit_added sum byte) others
 
 -- the number that an id's hexadecimal digits write
-abbrev pub number_of : List ℕ → ℕ
-number_of id = number_from 0 id
+abbrev pub id_number : List ℕ → ℕ
+id_number id = number_from 0 id

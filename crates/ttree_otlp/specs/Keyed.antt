@@ -52,6 +52,6 @@ trace_of [] = []
 trace_of (x ∷ xs) = x.trace
 
 -- the time of the first of these rows
-abbrev pub time_of : List Item → ℕ
-time_of [] = 0
-time_of (x ∷ xs) = x.time
+abbrev pub first_time : List Item → ℕ
+first_time [] = 0
+first_time (x ∷ xs) = x.time

@@ -23,16 +23,16 @@ kind_at value =
     unwrap_or (number_at (codes "kind") value) (kind_named (string_at (codes "kind") value))
 
 -- a status is an error by its number or its name
-abbrev pub has_failed : Json → Bool
-has_failed status =
+abbrev pub status_is_error : Json → Bool
+status_is_error status =
     (count_at (codes "code") status == 2)
     || bytes_eq (string_at (codes "code") status) (codes "STATUS_CODE_ERROR")
 
 -- ---- levels
 
 -- the level of a log's severity number; INFO if it has no number
-abbrev pub level_of : ℕ → Level
-level_of severity =
+abbrev pub level_of_severity : ℕ → Level
+level_of_severity severity =
     if nat_le 17 severity then Error
     else if nat_le 13 severity then Warn
     else if nat_le 9 severity then Info
@@ -69,8 +69,8 @@ is_warn word =
     has_grade word (codes "warn") (codes "warn2") (codes "warn3") (codes "warn4")
     || same_word word (codes "warning")
 
-abbrev pub is_error : List ℕ → Bool
-is_error word =
+abbrev pub names_error : List ℕ → Bool
+names_error word =
     has_grade word (codes "error") (codes "error2") (codes "error3") (codes "error4")
     || has_grade word (codes "err") (codes "critical") (codes "crit") (codes "severe")
 
@@ -80,10 +80,10 @@ is_fatal word =
     || has_grade word (codes "panic") (codes "alert") (codes "emerg") (codes "emergency")
 
 -- the level of this name, in any case
-abbrev pub level_named : List ℕ → Option Level
-level_named word =
+abbrev pub level_by_name : List ℕ → Option Level
+level_by_name word =
     if is_info word then Some Info
-    else if is_error word || is_fatal word then Some Error
+    else if names_error word || is_fatal word then Some Error
     else if is_warn word then Some Warn
     else if is_debug word then Some Debug
     else if is_trace word then Some Trace
@@ -91,7 +91,7 @@ level_named word =
 
 -- the level of a severity number's name, such as `SEVERITY_NUMBER_WARN2`
 abbrev pub severity_named : List ℕ → Option Level
-severity_named name = option_and_then level_named (after_mark (codes "SEVERITY_NUMBER_") name)
+severity_named name = option_and_then level_by_name (after_mark (codes "SEVERITY_NUMBER_") name)
 
 abbrev pub level_or : Level → Option Level → Level
 level_or other (Some level) = level
@@ -100,11 +100,11 @@ level_or other None = other
 abbrev pub level_at_name : Json → Level
 level_at_name value =
     level_or
-    (unwrap_or (level_named (string_at (codes "severityText") value)) Info)
+    (unwrap_or (level_by_name (string_at (codes "severityText") value)) Info)
     (severity_named (string_at (codes "severityNumber") value))
 
 -- the level of a log: that of its severity number, otherwise of its severity's text, otherwise INFO
 abbrev pub level_at : Json → Level
 level_at value =
     if count_at (codes "severityNumber") value == 0 then level_at_name value
-    else level_of (count_at (codes "severityNumber") value)
+    else level_of_severity (count_at (codes "severityNumber") value)

@@ -13,7 +13,7 @@ use Rattle.ttree_source.specs.declared.notes.Problem.TheVariants.{Object}
 use Rattle.ttree_source.specs.declared.run.SourceRun.{SourceRun}
 use Rattle.ttree_otlp.specs.Draw.{calls_of_rows}
 use Rattle.ttree_otlp.specs.Gather.{GatheredState, gathered_in, item_cmp, resolved}
-use Rattle.ttree_otlp.specs.Select.{shown}
+use Rattle.ttree_otlp.specs.Select.{selected_shown}
 use Rattle.ttree_otlp.specs.Walk.{rows_in_order}
 use Rattle.ttree_otlp.specs.declared.item.Item.{Item}
 use Rattle.ttree_otlp.specs.declared.select.Selection.{Selection}
@@ -30,7 +30,7 @@ rows_of gathered = map (resolved gathered.known) gathered.items
 abbrev pub AreCallsOf : ℕ → Moment → Selection → GatheredState → List Call → Type 0
 AreCallsOf next moment selection gathered calls =
     (ordered : List Item) × IsInOrder (rows_of gathered) ordered
-    × (calls ≡ calls_of_rows next moment (shown selection (rows_in_order ordered)))
+    × (calls ≡ calls_of_rows next moment (selected_shown selection (rows_in_order ordered)))
 
 -- The drawing is that of the calls of the input, and each was accepted.
 abbrev pub DrawsAll : ℕ → Moment → Selection → GatheredState → Seen → Seen → Type 0

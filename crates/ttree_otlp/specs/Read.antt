@@ -8,7 +8,7 @@ use Rattle.json.specs.Json.{Json, null, boolean, number, string, array, object, 
 use Rattle.json.specs.Find.{get}
 use Rattle.tracing_tree_base.specs.declared.field.Field.{Field}
 use Rattle.ttree_source.specs.Marks.{is_empty}
-use Rattle.ttree_source.specs.Calls.{message_field, shown}
+use Rattle.ttree_source.specs.Calls.{message_field, shown_text}
 use Rattle.ttree_source.specs.Values.{array_at, text_at}
 use Rattle.ttree_otlp.specs.AnyValue.{any_text}
 
@@ -25,16 +25,16 @@ whole_of text =
     then Some (digits_value 10 text) else None
 
 -- the digits of a number, which may be in a string
-abbrev pub word_of : Json → Option (List ℕ)
-word_of null = None
-word_of (boolean _) = None
-word_of (number text) = Some text
-word_of (string text) = Some text
-word_of (array _) = None
-word_of (object _) = None
+abbrev pub number_digits : Json → Option (List ℕ)
+number_digits null = None
+number_digits (boolean _) = None
+number_digits (number text) = Some text
+number_digits (string text) = Some text
+number_digits (array _) = None
+number_digits (object _) = None
 
 abbrev pub number_at : List ℕ → Json → Option ℕ
-number_at key value = option_and_then whole_of (option_and_then word_of (get key value))
+number_at key value = option_and_then whole_of (option_and_then number_digits (get key value))
 
 -- the count at a key, or 0
 abbrev pub count_at : List ℕ → Json → ℕ
@@ -72,18 +72,19 @@ attribute_text attribute = text_or_null (get (codes "value") attribute)
 
 -- a field of a span
 abbrev pub span_field : List ℕ → List ℕ → Field
-span_field name text = record { name = shown name; value = shown text }
+span_field name text = record { name = shown_text name; value = shown_text text }
 
 -- A field of an event. One called `message` would be drawn without its name, so its value begins
 -- with it.
-abbrev pub field_of : List ℕ → List ℕ → Field
-field_of name text =
+abbrev pub named_event_field : List ℕ → List ℕ → Field
+named_event_field name text =
     if bytes_eq name (codes "message") then message_field (codes "message=" ++ text)
     else span_field name text
 
 abbrev pub attribute_field : Bool → Json → Field
 attribute_field is_event attribute =
-    if is_event then field_of (string_at (codes "key") attribute) (attribute_text attribute)
+    if is_event then named_event_field (string_at (codes "key") attribute)
+    (attribute_text attribute)
     else span_field (string_at (codes "key") attribute) (attribute_text attribute)
 
 abbrev pub attribute_fields : Bool → Items → List Field

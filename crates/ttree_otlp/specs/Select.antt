@@ -25,8 +25,8 @@ is_of_service None service = true
 abbrev pub is_of_trace : List ℕ → List ℕ → Bool
 is_of_trace front trace = is_some (after_mark front trace)
 
-abbrev pub fits : Selection → List ℕ → List ℕ → Bool
-fits selection trace service =
+abbrev pub fits_selection : Selection → List ℕ → List ℕ → Bool
+fits_selection selection trace service =
     is_of_trace selection.trace trace && is_of_service selection.service service
 
 abbrev pub is_at_least : Option Level → Level → Bool
@@ -42,7 +42,7 @@ is_error Warn = false
 
 abbrev pub note_fits : Selection → List ℕ → Note → Bool
 note_fits selection trace note =
-    fits selection trace note.service && is_at_least selection.min_level note.level
+    fits_selection selection trace note.service && is_at_least selection.min_level note.level
 
 -- under --failed only errors are selected
 abbrev pub note_is_selected : Selection → List ℕ → Note → Bool
@@ -56,7 +56,7 @@ selects_events selection = selection.is_failed || is_some selection.min_level
 abbrev pub is_selected_as : Shape → Selection → List ℕ → Bool
 is_selected_as (Trace id) selection trace = false
 is_selected_as (Span span) selection trace =
-    not (selects_events selection) && fits selection trace span.service
+    not (selects_events selection) && fits_selection selection trace span.service
 is_selected_as (OfNote note) selection trace = note_is_selected selection trace note
 is_selected_as (LeftOut count) selection trace = false
 
@@ -97,8 +97,8 @@ selected_of selection (row ∷ others) =
 
 -- what is shown of rows in drawing order: of the selected rows, those that
 -- --min and --depth don't leave out
-abbrev pub shown : Selection → List Row → List Row
-shown selection rows = cut_from selection.cut (selected_of selection rows)
+abbrev pub selected_shown : Selection → List Row → List Row
+selected_shown selection rows = cut_from selection.cut (selected_of selection rows)
 
 -- whether a row is with the selected rows, by the reach of the rows after it
 abbrev pub is_with_selected_by : Selection → Row → Bool → ℕ → Bool

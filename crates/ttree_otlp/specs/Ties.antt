@@ -1,7 +1,7 @@
 -- Inputs whose lines can be in any order: rows of different lines don't tie.
 use Rattle.std.specs.Prelude.{◌≡◌, ◌==◌, Bool, false, ℕ, List, map, All, AllPairs}
 use Rattle.std.specs.List.{list_any}
-use Rattle.ttree_otlp.specs.Gather.{line_taken, lines_taken, nothing_gathered, resolved}
+use Rattle.ttree_otlp.specs.Gather.{lines_taken, nothing_gathered, otlp_line_taken, resolved}
 use Rattle.ttree_otlp.specs.declared.item.Item.{Item}
 use Rattle.ttree_otlp.specs.Walk.{key_in}
 
@@ -17,7 +17,7 @@ TieAlike a b =
 
 -- the rows of a line in an input with these traces and spans, each with its span
 abbrev pub rows_of_line : List (List ℕ × ℕ) → List ℕ → List Item
-rows_of_line known line = map (resolved known) (line_taken line nothing_gathered).items
+rows_of_line known line = map (resolved known) (otlp_line_taken line nothing_gathered).items
 
 -- no row of the one line ties with a row of the other line, unless they are the same
 abbrev pub DontTie : List (List ℕ × ℕ) → List ℕ → List ℕ → Type 0

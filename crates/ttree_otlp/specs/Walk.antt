@@ -1,6 +1,6 @@
 -- The rows of an input nested by their ids, in drawing order.
 use Rattle.std.specs.Prelude.{ℕ, ◌-◌, ◌*◌, ◌^◌, nat_lt, zero, suc, min, Bool, true, false, if◌then◌else◌, List, [], ◌∷◌, ◌++◌, length, Option, Some, None, unwrap_or}
-use Rattle.ttree_otlp.specs.Keyed.{after_first, first_kept, head_of, kept_at, key_of, tail_of, time_of, trace_of, with_kept, without_kept}
+use Rattle.ttree_otlp.specs.Keyed.{after_first, first_kept, first_time, head_of, kept_at, key_of, tail_of, trace_of, with_kept, without_kept}
 use Rattle.ttree_otlp.specs.declared.item.Item.{Item}
 use Rattle.ttree_otlp.specs.declared.item.Shape.{Shape}
 use Rattle.ttree_otlp.specs.declared.item.Shape.TheVariants.{Trace, Span, Note, LeftOut}
@@ -54,16 +54,16 @@ row_added item s =
 abbrev pub pushed : List Item → WalkState → WalkState
 pushed group s = record s { frames = group ∷ s.frames }
 
-abbrev pub opened : Item → List Item → WalkState → WalkState
-opened item group s = pushed group (row_added item s)
+abbrev pub row_opened : Item → List Item → WalkState → WalkState
+row_opened item group s = pushed group (row_added item s)
 
 abbrev pub without_group : List ℕ → WalkState → WalkState
 without_group key s = record s { groups = without_kept key s.groups }
 
 -- a trace without rows isn't shown
 abbrev pub opened_as : Option (List Item) → Item → WalkState → WalkState
-opened_as (Some group) item s = opened item group s
-opened_as None item s = if is_trace item.shape then s else opened item [] s
+opened_as (Some group) item s = row_opened item group s
+opened_as None item s = if is_trace item.shape then s else row_opened item [] s
 
 abbrev pub entered_at : List ℕ → Item → WalkState → WalkState
 entered_at key item s = opened_as (kept_at key s.groups) item (without_group key s)
@@ -72,8 +72,8 @@ abbrev pub entered_as : Option (List ℕ) → Item → WalkState → WalkState
 entered_as (Some key) item s = entered_at key item s
 entered_as None item s = row_added item s
 
-abbrev pub entered : Item → WalkState → WalkState
-entered item s = entered_as (own_key item) item s
+abbrev pub item_entered : Item → WalkState → WalkState
+item_entered item s = entered_as (own_key item) item s
 
 -- ---- the walk
 
@@ -98,26 +98,27 @@ trace_item id time = record {
 -- shown in their trace.
 abbrev pub left_over_as : Option (List Item) → WalkState → WalkState
 left_over_as None s = s
-left_over_as (Some group) s = opened (trace_item (trace_of group) (time_of group)) group s
+left_over_as (Some group) s = row_opened (trace_item (trace_of group) (first_time group)) group s
 
 abbrev pub left_over : WalkState → WalkState
 left_over s = left_over_as (first_kept s.groups) (record s { groups = after_first s.groups })
 
 -- the innermost span is left, but not the root
-abbrev pub left : WalkState → WalkState
-left s = if nat_lt 1 (length s.frames) then record s { frames = tail_of s.frames } else left_over s
+abbrev pub innermost_left : WalkState → WalkState
+innermost_left s =
+    if nat_lt 1 (length s.frames) then record s { frames = tail_of s.frames } else left_over s
 
 abbrev pub stepped_as : Option Item → WalkState → WalkState
-stepped_as (Some item) s = entered item s
-stepped_as None s = left s
+stepped_as (Some item) s = item_entered item s
+stepped_as None s = innermost_left s
 
 -- the next row of the innermost span; if no row is left, the span is left
-abbrev pub stepped : WalkState → WalkState
-stepped s = stepped_as (next_item s.frames) (record s { frames = after_item s.frames })
+abbrev pub walk_stepped : WalkState → WalkState
+walk_stepped s = stepped_as (next_item s.frames) (record s { frames = after_item s.frames })
 
 abbrev pub stepped_times : ℕ → WalkState → WalkState
 stepped_times zero s = s
-stepped_times (suc n) s = stepped (stepped_times n s)
+stepped_times (suc n) s = walk_stepped (stepped_times n s)
 
 -- Each row is entered once and left once. Beyond that steps do nothing.
 abbrev pub step_count : ℕ → ℕ

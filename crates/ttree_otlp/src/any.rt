@@ -2,7 +2,7 @@
 
 ghost use Rattle.std.specs.Prelude.{◌≡◌, ◌++◌, true, IfOk, OnOk, codes, option_map, string_bytes};
 ghost use Rattle.json.specs.Value.{items_view, members_view, value_view};
-ghost use Rattle.ttree_otlp.specs.AnyValue.{any_text, array_json, entry_json, is_scalar_key, is_text_key, items_json, key_text, list_json, quoted, quoted_char, quoted_chars, raw_text, scalar_text, separator, value_json, values_json, variant_json};
+ghost use Rattle.ttree_otlp.specs.AnyValue.{any_text, array_json, entry_json, is_scalar_key, is_text_key, items_json, key_text, list_json, quoted_char, quoted_chars, quoted_value, raw_text, scalar_text, separator, value_json, values_json, variant_json};
 
 use json::Value;
 use std::alloc::{AllocError, Global};
@@ -191,7 +191,7 @@ fn push_key(out: &mut String, entry: &Value<'_>) -> Result<(), AllocError>
 }
 
 fn push_quoted(out: &mut String, text: &str) -> Result<(), AllocError>
-    ensures { OnOk result (string_bytes out.new ≡ string_bytes out.old ++ quoted text.now) }
+    ensures { OnOk result (string_bytes out.new ≡ string_bytes out.old ++ quoted_value text.now) }
 {
     out.push_str("\"")?;
     push_quoted_chars(out, text)?;

@@ -1,7 +1,7 @@
 //! What --min and --depth leave out of rows.
 
 ghost use Rattle.std.specs.Prelude.{◌≡◌, IfOk, OnOk};
-ghost use Rattle.ttree_otlp.specs.Cut.{count_as, cut_from, drawn, drawn_with, is_drawn_by, is_long, is_note, is_within, lasts, leaves_out, left_out, no_cut, sum_of};
+ghost use Rattle.ttree_otlp.specs.Cut.{count_as, cut_from, drawn, drawn_with, is_drawn_by, is_long_span, is_note, is_within, lasts, leaves_out, left_out_row, no_cut, sum_of};
 ghost use Rattle.ttree_otlp.specs.Nested.{reach_with};
 
 use crate::item::Shape;
@@ -38,7 +38,7 @@ fn is_within(levels: usize, depth: Option<usize>) -> bool
 
 // Returns whether a span took at least this long. One that hasn't ended isn't known to be short.
 fn is_long(min_level: u64, start: u64, end: u64) -> bool
-    ensures { result ≡ is_long min_level start end }
+    ensures { result ≡ is_long_span min_level start end }
 {
     end == 0 || end.saturating_sub(start) >= min_level
 }
@@ -97,7 +97,7 @@ pub(crate) fn count_as(shape: &Shape) -> u64
 
 // Puts this count in the place of a row.
 fn left_out(count: u64, row: Row) -> Row
-    ensures { result ≡ left_out count row }
+    ensures { result ≡ left_out_row count row }
 {
     let mut row = row;
     row.item.shape = Shape::LeftOut(count);

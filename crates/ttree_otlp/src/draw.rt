@@ -1,7 +1,7 @@
 //! Rows in drawing order, as calls.
 
 ghost use Rattle.std.specs.Prelude.{◌≡◌, ◌∷◌, ◌++◌, [], ◌-◌, IfOk, OnOk, Some, length, pos};
-ghost use Rattle.ttree_otlp.specs.Draw.{at_time, begun_tree, calls_of_rows, closed, closed_one, closed_times, closed_to, field_if, finished, id_on_top, kind_text, left_counted, left_emitted, note_fields, note_shown, opened, parent_fields, row_drawn, row_shown, rows_drawn, service_fields, service_on_top, span_fields, span_shown, time_field, time_fields, trace_shown};
+ghost use Rattle.ttree_otlp.specs.Draw.{at_time, begun_tree, calls_of_rows, closed_one, closed_times, closed_to, field_if, frame_closed, frame_opened, id_on_top, input_span_shown, kind_text, leading_fields, left_counted, left_emitted, note_fields, note_shown, parent_fields, row_drawn, row_shown, rows_drawn, rows_finished, service_fields, service_on_top, time_field, time_fields, trace_shown};
 ghost use Rattle.ttree_source.specs.Moments.{moment_at};
 
 use crate::cut::sum_of;
@@ -109,7 +109,7 @@ impl Tree {
 
     // Closes all that is open, and records how many spans were left out at the root.
     fn finish(&mut self) -> Result<(), AllocError>
-        ensures { OnOk result (self.new ≡ finished self.old) }
+        ensures { OnOk result (self.new ≡ rows_finished self.old) }
     {
         self.close_to(0)?;
         self.emit_left(self.left, None)
@@ -151,7 +151,7 @@ impl Tree {
     }
 
     fn close(&mut self, frame: Frame) -> Result<(), AllocError>
-        ensures { OnOk result (self.new ≡ closed frame self.old) }
+        ensures { OnOk result (self.new ≡ frame_closed frame self.old) }
     {
         self.go_to(frame.end);
         self.emit_left(frame.left, Some(frame.id))?;
@@ -256,7 +256,7 @@ impl Tree {
     }
 
     fn show_span(&mut self, above: &str, start: u64, span: Span) -> Result<(), AllocError>
-        ensures { OnOk result (self.new ≡ span_shown above.now start span self.old) }
+        ensures { OnOk result (self.new ≡ input_span_shown above.now start span self.old) }
     {
         let Span {
             id: _,
@@ -286,7 +286,7 @@ impl Tree {
         end: u64,
         service: Text,
     ) -> Result<(), AllocError>
-        ensures { OnOk result (self.new ≡ opened name.now fields end service self.old) }
+        ensures { OnOk result (self.new ≡ frame_opened name.now fields end service self.old) }
     {
         let above = self.current();
         let call = span_call(self.alloc, self.moment, name, fields, above)?;
@@ -398,7 +398,7 @@ fn span_fields(
     parent: Fields,
     kind: u64,
 ) -> Result<Fields, AllocError>
-    ensures { IfOk result (λ fields. fields ≡ span_fields service time parent kind) }
+    ensures { IfOk result (λ fields. fields ≡ leading_fields service time parent kind) }
 {
     let mut fields = service;
     fields.append(time)?;

@@ -1,9 +1,10 @@
 //! Collects the lines of an input: rows, and the span that each is nested in.
 
-ghost use Rattle.std.specs.Prelude.{◌≡◌, IfOk, OnOk, IsPermutation, IsSorted, codes, map, option_map};
+ghost use Rattle.std.specs.Prelude.{◌≡◌, IfOk, OnOk, IsPermutation, IsSorted, codes, is_some, map, option_map};
 ghost use Rattle.std.specs.Str.Lines.{lines};
+ghost use Rattle.json.specs.Json.{document};
 ghost use Rattle.json.specs.Value.{value_view};
-ghost use Rattle.ttree_otlp.specs.Gather.{added, end_taken, event_taken, events_taken, gathered_in, has_key, held, is_export, item_cmp, line_taken, lines_taken, links_taken, log_added, log_taken, logs_taken, lost, next_line, note_known, notes_taken, nothing_gathered, number_in, object_taken, of_service, place_of, rank_of, resolved, resource_taken, resources_taken, scope_taken, scopes_taken, span_added, span_taken, spans_taken, status_taken, timed, trace_seen, value_taken};
+ghost use Rattle.ttree_otlp.specs.Gather.{at_earliest, end_taken, event_taken, events_taken, gathered_in, has_key, in_known_span, is_export, item_cmp, lines_taken, links_taken, log_added, log_taken, logs_taken, lost, next_line, note_known, notes_taken, nothing_gathered, number_in, object_taken, of_service, otlp_line_taken, rank_of, resolved, resource_taken, resources_taken, row_gathered, row_place, scope_taken, scopes_taken, span_added, span_taken, spans_taken, status_taken, trace_seen, value_taken, whole_taken};
 ghost use Rattle.ttree_otlp.specs.Keyed.{key_of};
 ghost use Rattle.ttree_otlp.specs.Read.{items_at};
 
@@ -50,17 +51,13 @@ impl Model for Gathered {
 }
 
 // Collects the rows of an input.
+#[tactic(auto, using(crate::proofs::Texts::one_value, crate::proofs::Texts::many_lines))]
 pub(crate) fn gathered_in(alloc: Global, text: &str) -> Result<Gathered, AllocError>
     ensures { IfOk result (λ gathered. gathered ≡ gathered_in text.now) }
 {
     let mut gathered = Gathered::new(alloc)?;
-    let mut scratch = Scratch::new(alloc);
-    match value_of(alloc, text, &mut scratch)? {
-        Some(value) => {
-            gathered.next_line();
-            gathered.take_value(Some(&value))?;
-        }
-        None => gathered.take_lines(text)?,
+    if !gathered.take_whole(text)? {
+        gathered.take_lines(text)?;
     }
     Ok(gathered)
 }
@@ -99,6 +96,23 @@ impl Gathered {
         self.line = self.line.saturating_add(1);
     }
 
+    // Takes a text that is one value. Returns whether it is one. The space for parsing is freed
+    // here, since it grows with the text.
+    fn take_whole(&mut self, text: &str) -> Result<bool, AllocError>
+        ensures whole { IfOk result (λ whole. whole ≡ is_some (document text.now)) }
+        ensures taken { OnOk result (self.new ≡ whole_taken (document text.now) self.old) }
+    {
+        let mut scratch = Scratch::new(self.alloc);
+        match value_of(self.alloc, text, &mut scratch)? {
+            Some(value) => {
+                self.next_line();
+                self.take_value(Some(&value))?;
+                Ok(true)
+            }
+            None => Ok(false),
+        }
+    }
+
     fn take_lines(&mut self, text: &str) -> Result<(), AllocError>
         ensures { OnOk result (self.new ≡ lines_taken (lines text.now) self.old) }
     {
@@ -116,7 +130,7 @@ impl Gathered {
     }
 
     fn take_line(&mut self, line: &str) -> Result<(), AllocError>
-        ensures { OnOk result (self.new ≡ line_taken line.now self.old) }
+        ensures { OnOk result (self.new ≡ otlp_line_taken line.now self.old) }
     {
         self.next_line();
         if first_byte(line.as_bytes()).is_none() {
@@ -395,7 +409,8 @@ impl Gathered {
         time: u64,
         shape: Shape,
     ) -> Result<(), AllocError>
-        ensures { OnOk result (self.new ≡ added trace.now above.now order time shape self.old) }
+        ensures { OnOk result (self.new
+            ≡ row_gathered trace.now above.now order time shape self.old) }
     {
         let item = Item {
             trace: Text::from_str(self.alloc, trace)?,
@@ -446,7 +461,7 @@ fn number_in(shape: &Shape) -> u64
 }
 
 fn place_of(order: u64, shape: &Shape, index: usize) -> Place
-    ensures { result ≡ place_of order shape.now index }
+    ensures { result ≡ row_place order shape.now index }
 {
     Place {
         time: order,
@@ -475,7 +490,7 @@ fn resolved(alloc: Global, known: &Known, item: Item) -> Result<Item, AllocError
 
 // Returns a row at this time, if it is known.
 fn timed(time: Option<u64>, item: Item) -> Item
-    ensures { result ≡ timed time item }
+    ensures { result ≡ at_earliest time item }
 {
     let mut item = item;
     if let Some(time) = time {
@@ -487,7 +502,7 @@ fn timed(time: Option<u64>, item: Item) -> Item
 
 // Returns a row in its span if that is known, otherwise in its trace.
 fn held(alloc: Global, known: Option<u64>, item: Item) -> Result<Item, AllocError>
-    ensures { IfOk result (λ row. row ≡ held known item) }
+    ensures { IfOk result (λ row. row ≡ in_known_span known item) }
 {
     let mut item = item;
     if known.is_none() {

@@ -3,7 +3,7 @@
 ghost use Rattle.std.specs.Prelude.{◌≡◌, ◌<◌, IfOk, Some, codes};
 ghost use Rattle.json.specs.Find.{get};
 ghost use Rattle.json.specs.Value.{members_view, value_view};
-ghost use Rattle.ttree_otlp.specs.Item.{above_of, body_fields, digit_added, event_level, event_note, failed_note, has_body, has_members, hex_digit, link_note, log_note, log_time, number_of, reason_fields, span_of, unfinished_note};
+ghost use Rattle.ttree_otlp.specs.Item.{above_of, body_fields, digit_added, event_level, event_note, failed_note, has_body, has_members, hex_digit, id_number, link_note, log_note, log_time, reason_fields, span_read, unfinished_note};
 
 use crate::any::any_text;
 use crate::named::{kind_at, level_at};
@@ -216,7 +216,7 @@ pub(crate) fn unfinished_note(alloc: Global, service: Text) -> Result<Note, Allo
 }
 
 pub(crate) fn span_of(alloc: Global, service: Text, value: &Value<'_>) -> Result<Span, AllocError>
-    ensures { IfOk result (λ span. span ≡ span_of service (value_view value.now)) }
+    ensures { IfOk result (λ span. span ≡ span_read service (value_view value.now)) }
 {
     Ok(Span {
         id: id_at(alloc, value, "spanId")?,
@@ -259,7 +259,7 @@ fn digit_added(number: u64, byte: u8) -> u64
 
 // Returns the number that an id's hexadecimal digits write.
 pub(crate) fn number_of(id: &[u8]) -> u64
-    ensures { result ≡ number_of id.now }
+    ensures { result ≡ id_number id.now }
 {
     let mut number = 0;
     let mut rest = id;

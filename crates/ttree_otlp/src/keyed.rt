@@ -3,7 +3,7 @@
 ghost use Rattle.std.specs.Prelude.{◌≡◌, ◌∷◌, [], IfOk, OnOk};
 ghost use Rattle.ttree_otlp.specs.Cut.{count_with};
 ghost use Rattle.ttree_otlp.specs.Nested.{begins_deeper, without_nested};
-ghost use Rattle.ttree_otlp.specs.Keyed.{after_first, first_kept, head_of, kept_at, key_of, tail_of, time_of, trace_of, with_kept, without_kept};
+ghost use Rattle.ttree_otlp.specs.Keyed.{after_first, first_kept, first_time, head_of, kept_at, key_of, tail_of, trace_of, with_kept, without_kept};
 
 use crate::cut::{count_as, sum_of};
 use crate::item::Item;
@@ -124,7 +124,7 @@ impl Group {
 
     // Returns the time of the first row.
     pub(crate) fn time(&self) -> u64
-        ensures { result ≡ time_of self.now }
+        ensures { result ≡ first_time self.now }
     {
         match self.items.as_slice().last() {
             Some(item) => item.time,

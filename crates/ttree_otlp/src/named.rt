@@ -2,7 +2,7 @@
 
 ghost use Rattle.std.specs.Prelude.{◌≡◌};
 ghost use Rattle.json.specs.Value.{value_view};
-ghost use Rattle.ttree_otlp.specs.Named.{has_failed, has_grade, is_debug, is_error, is_fatal, is_info, is_trace, is_warn, kind_at, kind_named, level_at, level_at_name, level_named, level_of, same_word, severity_named};
+ghost use Rattle.ttree_otlp.specs.Named.{has_grade, is_debug, is_fatal, is_info, is_trace, is_warn, kind_at, kind_named, level_at, level_at_name, level_by_name, level_of_severity, names_error, same_word, severity_named, status_is_error};
 
 use crate::read::{count_at, number_at, string_at};
 use json::Value;
@@ -37,14 +37,14 @@ pub(crate) fn kind_at(value: &Value<'_>) -> u64
 
 // Returns whether a status is an error.
 pub(crate) fn has_failed(status: &Value<'_>) -> bool
-    ensures { result ≡ has_failed (value_view status.now) }
+    ensures { result ≡ status_is_error (value_view status.now) }
 {
     count_at(status, "code") == 2 || string_at(status, "code") == "STATUS_CODE_ERROR"
 }
 
 // Returns the level of a log's severity number, or INFO without one.
 fn level_of(severity: u64) -> Level
-    ensures { result ≡ level_of severity }
+    ensures { result ≡ level_of_severity severity }
 {
     if severity >= 17 {
         Level::Error
@@ -104,7 +104,7 @@ fn is_warn(word: &str) -> bool
 }
 
 fn is_error(word: &str) -> bool
-    ensures { result ≡ is_error word.now }
+    ensures { result ≡ names_error word.now }
 {
     has_grade(word, "error", "error2", "error3", "error4")
         || has_grade(word, "err", "critical", "crit", "severe")
@@ -119,7 +119,7 @@ fn is_fatal(word: &str) -> bool
 
 // Returns the level of this name, in any case.
 fn level_named(word: &str) -> Option<Level>
-    ensures { result ≡ level_named word.now }
+    ensures { result ≡ level_by_name word.now }
 {
     if is_info(word) {
         Some(Level::Info)

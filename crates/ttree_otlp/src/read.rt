@@ -4,7 +4,7 @@ ghost use Rattle.std.specs.Prelude.{◌≡◌, IfOk, option_map, string_bytes};
 ghost use Rattle.std.specs.List.{list_all};
 ghost use Rattle.std.specs.Str.{all_ascii_digits};
 ghost use Rattle.json.specs.Value.{items_view, value_view};
-ghost use Rattle.ttree_otlp.specs.Read.{attribute_at, attribute_field, attribute_fields, attribute_text, attributes_in, count_at, field_of, id_at, id_of, is_digits, is_zero, number_at, service_in, service_of, span_field, string_at, whole_of, word_of};
+ghost use Rattle.ttree_otlp.specs.Read.{attribute_at, attribute_field, attribute_fields, attribute_text, attributes_in, count_at, id_at, id_of, is_digits, is_zero, named_event_field, number_at, number_digits, service_in, service_of, span_field, string_at, whole_of};
 
 use crate::any::any_text;
 use json::Value;
@@ -16,7 +16,7 @@ use ttree_source::values::{array_at, text_at};
 
 // Returns a number as written, which may be in a string.
 fn word_of<'v>(value: &'v Value<'_>) -> Option<&'v str>
-    ensures { option_map (λ w. w.now) result ≡ word_of (value_view value.now) }
+    ensures { option_map (λ w. w.now) result ≡ number_digits (value_view value.now) }
 {
     match value {
         Value::Number(text) => Some(text),
@@ -123,7 +123,7 @@ fn span_field(alloc: Global, name: &str, text: &str) -> Result<Field, AllocError
 // Returns a field of an event. One called `message` would be drawn without its name, so its value
 // begins with it.
 pub(crate) fn field_of(alloc: Global, name: &str, text: &str) -> Result<Field, AllocError>
-    ensures { IfOk result (λ field. field ≡ field_of name.now text.now) }
+    ensures { IfOk result (λ field. field ≡ named_event_field name.now text.now) }
 {
     if name == "message" {
         let mut named = String::from_str(alloc, "message=")?;

@@ -1,7 +1,7 @@
 //! The rows that are shown.
 
 ghost use Rattle.std.specs.Prelude.{◌≡◌, IfOk, OnOk};
-ghost use Rattle.ttree_otlp.specs.Select.{everything, fits, is_around, is_at_least, is_error, is_of_service, is_of_trace, is_selected, is_with_selected_by, kept_with, note_fits, note_is_selected, selected_of, selects_events, shown};
+ghost use Rattle.ttree_otlp.specs.Select.{everything, fits_selection, is_around, is_at_least, is_error, is_of_service, is_of_trace, is_selected, is_with_selected_by, kept_with, note_fits, note_is_selected, selected_of, selected_shown, selects_events};
 
 use crate::cut::{cut_from, no_cut, reach_with};
 use crate::item::{Note, Shape};
@@ -73,7 +73,7 @@ fn is_of_trace(front: &str, trace: &str) -> bool
 }
 
 fn fits(selection: &Selection, trace: &str, service: &str) -> bool
-    ensures { result ≡ fits selection.now trace.now service.now }
+    ensures { result ≡ fits_selection selection.now trace.now service.now }
 {
     is_of_trace(selection.trace.as_str(), trace) && is_of_service(&selection.service, service)
 }
@@ -166,7 +166,7 @@ pub(crate) fn shown(
     selection: &Selection,
     rows: Vec<Row>,
 ) -> Result<Rows, AllocError>
-    ensures { IfOk result (λ kept. kept ≡ shown selection.now rows.items) }
+    ensures { IfOk result (λ kept. kept ≡ selected_shown selection.now rows.items) }
 {
     cut_from(alloc, selection.cut, selected_of(alloc, selection, rows)?)
 }

@@ -2,7 +2,7 @@
 
 ghost use Rattle.std.specs.Prelude.{◌≡◌, ◌∷◌, IfOk, OnOk, option_map};
 ghost use Rattle.ttree_otlp.specs.Keyed.{key_of};
-ghost use Rattle.ttree_otlp.specs.Walk.{after_item, begun_walk, entered, entered_at, grouped, is_trace, key_in, left, left_over, next_item, opened, own_key, put_first, row_added, rows_in_order, step_count, stepped, stepped_times, trace_item};
+ghost use Rattle.ttree_otlp.specs.Walk.{after_item, begun_walk, entered_at, grouped, innermost_left, is_trace, item_entered, key_in, left_over, next_item, own_key, put_first, row_added, row_opened, rows_in_order, step_count, stepped_times, trace_item, walk_stepped};
 
 use crate::item::{Item, Place, Shape};
 use crate::keyed::{Group, Groups, key_of, trim};
@@ -160,7 +160,7 @@ impl Walk {
 
     // Enters the next row of the innermost span, or leaves the span after its last row.
     fn step(&mut self) -> Result<(), AllocError>
-        ensures { OnOk result (self.new ≡ stepped self.old) }
+        ensures { OnOk result (self.new ≡ walk_stepped self.old) }
     {
         match self.next_item() {
             Some(item) => self.enter(item),
@@ -181,7 +181,7 @@ impl Walk {
 
     // Adds a row, and opens it if rows may be nested in it.
     fn enter(&mut self, item: Item) -> Result<(), AllocError>
-        ensures { OnOk result (self.new ≡ entered item self.old) }
+        ensures { OnOk result (self.new ≡ item_entered item self.old) }
     {
         match own_key(self.alloc, &item)? {
             Some(key) => self.enter_key(key.as_slice(), item),
@@ -201,7 +201,7 @@ impl Walk {
     }
 
     fn open(&mut self, item: Item, group: Group) -> Result<(), AllocError>
-        ensures { OnOk result (self.new ≡ opened item group self.old) }
+        ensures { OnOk result (self.new ≡ row_opened item group self.old) }
     {
         self.add(item)?;
         Ok(self.frames.push(group)?)
@@ -216,7 +216,7 @@ impl Walk {
 
     // Leaves the innermost span. The root stays open.
     fn leave(&mut self) -> Result<(), AllocError>
-        ensures { OnOk result (self.new ≡ left self.old) }
+        ensures { OnOk result (self.new ≡ innermost_left self.old) }
     {
         if self.frames.len() > 1 {
             drop(self.frames.pop());

@@ -12,7 +12,7 @@ use Rattle.ttree_page.specs.declared.form.LineForm.TheVariants.{Arrays, Objects}
 use Rattle.ttree_page.specs.declared.form.Kind.{Kind}
 use Rattle.ttree_page.specs.declared.form.Kind.TheVariants as Kinds
 use Rattle.ttree_page.specs.Steps.{Stamp, Step, About, New, Record, Event, Close, End}
-use Rattle.ttree_page.specs.Lines.{after_comma, bracket, escaped, field_parts, hex_pair, is_harmless, key_text, kind_of, later_pair, level_text, name_and_value, named, pair, pairs, parts_of, quoted, stamp_parts, start_text}
+use Rattle.ttree_page.specs.Lines.{after_comma, bracket, escaped_byte, field_parts, hex_pair, in_quotes, is_harmless, key_text, keyed_part, later_pair, level_text, name_and_value, pair, pairs, stamp_parts, start_text, step_kind, step_parts}
 use Rattle.ttree_page.specs.Writing.{AreLinesHarmless}
 
 -- these bytes are harmless
@@ -71,16 +71,16 @@ pair_harmless byte =
 code_harmless : (byte : ℕ) → AreHarmless (codes "\\u00" ++ hex_pair byte)
 code_harmless byte = joined (codes "\\u00") (hex_pair byte) (record { all = refl }) (pair_harmless byte)
 
-escaped_all : (byte : ℕ) → list_all is_harmless (escaped byte) ≡ true
+escaped_all : (byte : ℕ) → list_all is_harmless (escaped_byte byte) ≡ true
 escaped_all byte = let code = (code_harmless byte).all in grind arith
 
-escaped_harmless : (byte : ℕ) → AreHarmless (escaped byte)
+escaped_harmless : (byte : ℕ) → AreHarmless (escaped_byte byte)
 escaped_harmless byte = record { all = escaped_all byte }
 
-quoted_harmless : (text : List ℕ) → AreHarmless (quoted text)
+quoted_harmless : (text : List ℕ) → AreHarmless (in_quotes text)
 quoted_harmless text =
-    one_more 34 (flat_map escaped text ++ 34 ∷ []) refl
-    (joined (flat_map escaped text) (34 ∷ []) (mapped escaped escaped_harmless text) (record { all = refl }))
+    one_more 34 (flat_map escaped_byte text ++ 34 ∷ []) refl
+    (joined (flat_map escaped_byte text) (34 ∷ []) (mapped escaped_byte escaped_harmless text) (record { all = refl }))
 
 -- a byte between two harmless strings
 around : (a b : List ℕ) (byte : ℕ) → is_harmless byte ≡ true → AreHarmless a → AreHarmless b → AreHarmless (a ++ byte ∷ b)
@@ -103,8 +103,8 @@ key_harmless Arrays key h = none
 key_harmless Objects key h = one_more 34 (key ++ codes "\":") refl (joined key (codes "\":") h (record { all = refl }))
 
 -- a part with its key
-with_key : (form : LineForm) (key value : List ℕ) (parts : List (List ℕ)) → AreHarmless key → AreHarmless value → PartsAreHarmless parts → PartsAreHarmless (named form key value ∷ parts)
-with_key form key value parts h k rest = part (named form key value) parts (joined (key_text form key) value (key_harmless form key h) k) rest
+with_key : (form : LineForm) (key value : List ℕ) (parts : List (List ℕ)) → AreHarmless key → AreHarmless value → PartsAreHarmless parts → PartsAreHarmless (keyed_part form key value ∷ parts)
+with_key form key value parts h k rest = part (keyed_part form key value) parts (joined (key_text form key) value (key_harmless form key h) k) rest
 
 stamp : (form : LineForm) (at : Stamp) (parts : List (List ℕ)) → PartsAreHarmless parts → PartsAreHarmless (stamp_parts form at ++ parts)
 stamp form at parts h =
@@ -120,7 +120,7 @@ values_harmless (field ∷ fields) =
     part _ _ (quoted_harmless field.name) (part _ _ (quoted_harmless field.value) (values_harmless fields))
 
 pair_of_harmless : (field : Field) → AreHarmless (pair field)
-pair_of_harmless field = around (quoted field.name) (quoted field.value) 58 refl (quoted_harmless field.name) (quoted_harmless field.value)
+pair_of_harmless field = around (in_quotes field.name) (in_quotes field.value) 58 refl (quoted_harmless field.name) (quoted_harmless field.value)
 
 later_harmless : (field : Field) → AreHarmless (later_pair field)
 later_harmless field = one_more 44 (pair field) refl (pair_of_harmless field)
@@ -147,7 +147,7 @@ level_harmless Objects Levels.Info = record { all = refl }
 level_harmless Objects Levels.Warn = record { all = refl }
 level_harmless Objects Levels.Error = record { all = refl }
 
-parts_harmless : (form : LineForm) (step : Step) → PartsAreHarmless (parts_of form step)
+parts_harmless : (form : LineForm) (step : Step) → PartsAreHarmless (step_parts form step)
 parts_harmless form (About title) = with_key form (codes "title") _ _ (record { all = refl }) (quoted_harmless title) last_part
 parts_harmless form (New at id parent name target fields) =
     stamp form at _ (with_key form (codes "id") _ _ (record { all = refl }) (decimal_harmless id)
@@ -186,10 +186,10 @@ bracket_harmless Objects = record { all = refl }
 -- whatever a step has in it, its line has no `<`, and no control character except its line end
 pub lines_are_harmless : AreLinesHarmless
 lines_are_harmless form step =
-    let start = start_text form (kind_of step) in
-    let parts = flat_map after_comma (parts_of form step) in
+    let start = start_text form (step_kind step) in
+    let parts = flat_map after_comma (step_parts form step) in
     record {
       front = start ++ parts ++ bracket form;
       ended = sym (append_assoc (start ++ parts) (bracket form) (codes "\n"));
-      harmless = (joined (start ++ parts) (bracket form) (joined start parts (start_harmless form (kind_of step)) (parts_harmless form step).held) (bracket_harmless form)).all;
+      harmless = (joined (start ++ parts) (bracket form) (joined start parts (start_harmless form (step_kind step)) (parts_harmless form step).held) (bracket_harmless form)).all;
     }

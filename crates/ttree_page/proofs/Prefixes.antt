@@ -12,7 +12,7 @@ use Rattle.tracing_tree_layer.specs.declared.call.Call.{Call}
 use Rattle.tracing_tree_layer.specs.Layered.Answered.{Writes}
 use Rattle.tracing_tree_output.specs.Writers.{LeavesCut, SeenWriter}
 use Rattle.ttree_page.specs.declared.form.LineForm.{LineForm}
-use Rattle.ttree_page.specs.Lines.{line_of}
+use Rattle.ttree_page.specs.Lines.{step_line}
 use Rattle.ttree_page.specs.Writing.{Answers, SeenSteps, cause_of, forest_after_answer, lines_of}
 use Rattle.ttree_page.specs.Runs.{Answer, AnswersEach, IsNotWriter, RunsWritePrefixes, WritesPrefix, steps_if, tried_steps}
 use Rattle.ttree_page.specs.Steps.{steps_of}
@@ -119,7 +119,7 @@ took form call calls answer answers old between new same none held one others la
     (wrote form old.forest call answer old.writer between.writer held written)
     (later (one.form ∙ same) (calm (lines_of old.form (steps_of old.forest call)) answer old.writer between.writer held one.written ∙ none) others)
     (ap (lines_of form) (tried old.forest call calls answer answers held)
-    ∙ flat_map-append (line_of form) first (tried_steps (forest_after_answer old.forest call answer) calls answers)
+    ∙ flat_map-append (step_line form) first (tried_steps (forest_after_answer old.forest call answer) calls answers)
     ∙ ap (λ (forest : Forest). lines_of form first ++ lines_of form (tried_steps forest calls answers)) (sym one.forest))
 
 -- the output failed at the first call

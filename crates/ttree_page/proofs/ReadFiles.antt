@@ -6,7 +6,7 @@ use Rattle.std.proofs.lemmas.Bool.{and_parts, ne_eqb}
 use Rattle.std.proofs.lemmas.List.{append-nil}
 use Rattle.std.proofs.lemmas.List.Elements.{All-head, All-tail, All-take}
 use Rattle.ttree_page.specs.declared.form.LineForm.TheVariants.{Arrays}
-use Rattle.ttree_page.specs.Lines.{is_harmless, line_of}
+use Rattle.ttree_page.specs.Lines.{is_harmless, step_line}
 use Rattle.ttree_page.specs.Parsing.{Split, begin_line, put_before, read_line, read_lines, split_lines}
 use Rattle.ttree_page.specs.Reading.{AreCutLinesRead, AreLinesRead, FitsStep, is_inside}
 use Rattle.ttree_page.specs.Steps.{Step}
@@ -50,7 +50,7 @@ split_front (byte ∷ front) rest h =
 -- what is known of a step's line
 record Line (step : Step) : Type 0 where
   front : List ℕ
-  ended : line_of Arrays step ≡ front ++ 10 ∷ []
+  ended : step_line Arrays step ≡ front ++ 10 ∷ []
   inside : NoEnd front
 
 line : (step : Step) → Line step
@@ -59,10 +59,10 @@ line step =
     record { front = harmless.front; ended = harmless.ended; inside = harmless_has_no_end harmless.front harmless.harmless }
 
 -- a line and what follows it
-followed : (step : Step) (rest : List ℕ) → line_of Arrays step ++ rest ≡ (line step).front ++ 10 ∷ rest
+followed : (step : Step) (rest : List ℕ) → step_line Arrays step ++ rest ≡ (line step).front ++ 10 ∷ rest
 followed step rest = ap (λ l. l ++ rest) (line step).ended ∙ append_assoc (line step).front (10 ∷ []) rest
 
-split_line : (step : Step) (rest : List ℕ) → split_lines (line_of Arrays step ++ rest) ≡ (line_of Arrays step ∷ (split_lines rest).0, (split_lines rest).1)
+split_line : (step : Step) (rest : List ℕ) → split_lines (step_line Arrays step ++ rest) ≡ (step_line Arrays step ∷ (split_lines rest).0, (split_lines rest).1)
 split_line step rest =
     ap split_lines (followed step rest) ∙ split_front (line step).front rest (line step).inside
     ∙ ap (λ (l : List ℕ). (l ∷ (split_lines rest).0, (split_lines rest).1)) (sym (line step).ended)
@@ -75,7 +75,7 @@ read_with_left : (steps : List Step) (left : List ℕ) → All FitsStep steps �
 read_with_left [] left small h = ap (λ (split : Split). (map read_line split.0, split.1)) (split_left left h)
 read_with_left (step ∷ steps) left small h =
     let rest = lines_of Arrays steps ++ left in
-    ap read_lines (append_assoc (line_of Arrays step) (lines_of Arrays steps) left)
+    ap read_lines (append_assoc (step_line Arrays step) (lines_of Arrays steps) left)
     ∙ ap (λ (split : Split). (map read_line split.0, split.1)) (split_line step rest)
     ∙ ap (λ (read : Option Step). (read ∷ map read_line (split_lines rest).0, (split_lines rest).1)) (step_read step (All-head FitsStep step steps small))
     ∙ ap (λ (read : Steps). (Some step ∷ read.0, read.1)) (read_with_left steps left (All-tail FitsStep step steps small) h)
@@ -123,8 +123,8 @@ after_line step steps front cut (inr (more, whole, after)) later =
     record {
       count = suc others.count;
       left = others.left;
-      whole = whole ∙ sym (followed step more) ∙ ap (λ l. line_of Arrays step ++ l) others.whole
-          ∙ sym (append_assoc (line_of Arrays step) (lines_of Arrays (take others.count steps)) others.left);
+      whole = whole ∙ sym (followed step more) ∙ ap (λ l. step_line Arrays step ++ l) others.whole
+          ∙ sym (append_assoc (step_line Arrays step) (lines_of Arrays (take others.count steps)) others.left);
       inside = others.inside;
     }
 

@@ -15,8 +15,8 @@ use Rattle.tracing_tree_base.specs.declared.style.Level.TheVariants as Levels
 use Rattle.ttree_page.specs.declared.form.LineForm.TheVariants.{Arrays}
 use Rattle.ttree_page.specs.Steps.{Stamp, Step, About, New, Record, Event, Close, End}
 use Rattle.ttree_page.specs.Strings.{Plain, read_text}
-use Rattle.ttree_page.specs.Lines.{after_comma, escaped, kind_of, level_text, line_of, name_and_value, parts_of, quoted, start_text}
-use Rattle.ttree_page.specs.Parsing.{Part, Number, Text, Parsed, after_part, as_negative, as_number, as_text, ended, fields_in, is_digit, level_in, put_part, read_digits, read_line, read_number, read_part, read_parts, stamp_from, step_in}
+use Rattle.ttree_page.specs.Lines.{after_comma, escaped_byte, in_quotes, level_text, name_and_value, start_text, step_kind, step_line, step_parts}
+use Rattle.ttree_page.specs.Parsing.{Part, Number, Text, Parsed, after_part, as_negative, as_number, as_text, parts_if_ended, fields_in, is_digit, level_from_number, put_part, read_digits, read_line, read_number, read_part, read_parts, stamp_from, step_in}
 use Rattle.ttree_page.specs.Reading.{AreLinesReadBack, FitsSigned, FitsStamp, FitsStep, IsEachLineRead, IsEachLineReadBack}
 use Rattle.ttree_page.specs.Writing.{lines_of}
 use Rattle.ttree_page.proofs.ReadStrings.{read-text}
@@ -135,14 +135,14 @@ AreFit (part ∷ parts) = FitsPart part × AreFit parts
 
 abbrev part_text : Part → List ℕ
 part_text (Number value) = signed_decimal value
-part_text (Text text) = quoted text
+part_text (Text text) = in_quotes text
 
 part_read : (part : Part) (byte : ℕ) (rest : List ℕ) → FitsPart part → IsEnd byte → read_part (part_text part ++ byte ∷ rest) ≡ Some (part, byte ∷ rest)
 part_read (Number (pos n)) byte rest fits end =
     part_starts (decimal n) (byte ∷ rest) (decimal_starts n) ∙ ap (option_map as_number) (number_read n byte rest fits end)
 part_read (Number (negsuc n)) byte rest fits end = ap (option_map as_negative) (number_read (suc n) byte rest fits end)
 part_read (Text text) byte rest fits end =
-    ap (λ bytes. option_map as_text (read_text Plain bytes)) (append_assoc (flat_map escaped text) (34 ∷ []) (byte ∷ rest))
+    ap (λ bytes. option_map as_text (read_text Plain bytes)) (append_assoc (flat_map escaped_byte text) (34 ∷ []) (byte ∷ rest))
     ∙ ap (option_map as_text) (read-text text (byte ∷ rest))
 
 -- these parts, each after a comma, and then this
@@ -190,7 +190,7 @@ field_values (field ∷ fields) = Text field.name ∷ Text field.value ∷ field
 field_texts : (fields : List Field) → flat_map name_and_value fields ≡ map part_text (field_values fields)
 unfolding field_values
 field_texts [] = refl
-field_texts (field ∷ fields) = ap (λ l. quoted field.name ∷ quoted field.value ∷ l) (field_texts fields)
+field_texts (field ∷ fields) = ap (λ l. in_quotes field.name ∷ in_quotes field.value ∷ l) (field_texts fields)
 
 fields_fit : (fields : List Field) → AreFit (field_values fields)
 unfolding field_values
@@ -227,7 +227,7 @@ level_fits Levels.Info = lit< tt
 level_fits Levels.Warn = lit< tt
 level_fits Levels.Error = lit< tt
 
-level_back : (level : Level) → level_in (level_number level) ≡ Some level
+level_back : (level : Level) → level_from_number (level_number level) ≡ Some level
 unfolding level_number
 level_back Levels.Trace = refl
 level_back Levels.Debug = refl
@@ -300,24 +300,24 @@ values_fit End small = (lit< tt, tt)
 abbrev stamped : Stamp → List (List ℕ) → List ℕ → List ℕ
 stamped stamp parts after =
     written (decimal (stamp.mono / 1_000_000_000) ∷ decimal (stamp.mono % 1_000_000_000)
-    ∷ signed_decimal (int_div_euclid stamp.ahead (pos 1_000_000_000)) ∷ signed_decimal (int_rem_euclid stamp.ahead (pos 1_000_000_000)) ∷ quoted stamp.thread ∷ parts) after
+    ∷ signed_decimal (int_div_euclid stamp.ahead (pos 1_000_000_000)) ∷ signed_decimal (int_rem_euclid stamp.ahead (pos 1_000_000_000)) ∷ in_quotes stamp.thread ∷ parts) after
 
 values_written : (step : Step) (after : List ℕ) →
-    start_text Arrays (kind_of step) ++ written (parts_of Arrays step) after ≡ 91 ∷ (part_text (kind_part step) ++ written (map part_text (values step)) after)
+    start_text Arrays (step_kind step) ++ written (step_parts Arrays step) after ≡ 91 ∷ (part_text (kind_part step) ++ written (map part_text (values step)) after)
 unfolding digits
 values_written (About title) after = refl
 values_written (New stamp id parent name target fields) after =
-    ap (λ l. 91 ∷ 49 ∷ stamped stamp (decimal id ∷ decimal parent ∷ quoted name ∷ quoted target ∷ l) after) (field_texts fields)
+    ap (λ l. 91 ∷ 49 ∷ stamped stamp (decimal id ∷ decimal parent ∷ in_quotes name ∷ in_quotes target ∷ l) after) (field_texts fields)
 values_written (Record id fields) after = ap (λ l. 91 ∷ 50 ∷ written (decimal id ∷ l) after) (field_texts fields)
 values_written (Event stamp parent current level target fields) after =
-    ap (λ text. 91 ∷ 51 ∷ stamped stamp (decimal parent ∷ decimal current ∷ text ∷ quoted target ∷ flat_map name_and_value fields) after) (level_texts level)
-    ∙ ap (λ l. 91 ∷ 51 ∷ stamped stamp (decimal parent ∷ decimal current ∷ decimal (level_number level) ∷ quoted target ∷ l) after) (field_texts fields)
+    ap (λ text. 91 ∷ 51 ∷ stamped stamp (decimal parent ∷ decimal current ∷ text ∷ in_quotes target ∷ flat_map name_and_value fields) after) (level_texts level)
+    ∙ ap (λ l. 91 ∷ 51 ∷ stamped stamp (decimal parent ∷ decimal current ∷ decimal (level_number level) ∷ in_quotes target ∷ l) after) (field_texts fields)
 values_written (Close stamp id) after = refl
 values_written End after = refl
 
-line_is : (step : Step) (rest : List ℕ) → line_of Arrays step ++ rest ≡ 91 ∷ shown (kind_part step) (values step) (10 ∷ rest)
+line_is : (step : Step) (rest : List ℕ) → step_line Arrays step ++ rest ≡ 91 ∷ shown (kind_part step) (values step) (10 ∷ rest)
 line_is step rest =
-    simp append_assoc (ap (λ l. start_text Arrays (kind_of step) ++ l) (written_is (parts_of Arrays step) (93 ∷ 10 ∷ rest))) ∙ values_written step (93 ∷ 10 ∷ rest)
+    simp append_assoc (ap (λ l. start_text Arrays (step_kind step) ++ l) (written_is (step_parts Arrays step) (93 ∷ 10 ∷ rest))) ∙ values_written step (93 ∷ 10 ∷ rest)
 
 step_back : (step : Step) → step_in (kind_part step ∷ values step) ≡ Some step
 step_back (About title) = refl
@@ -325,7 +325,7 @@ step_back (New stamp id parent name target fields) =
     ap (λ at. option_map (New at id parent name target) (fields_in (field_values fields))) (stamp_back stamp) ∙ ap (option_map (New stamp id parent name target)) (fields_back fields)
 step_back (Record id fields) = ap (option_map (Record id)) (fields_back fields)
 step_back (Event stamp parent current level target fields) =
-    ap (λ at. option_and_then (λ level. option_map (Event at parent current level target) (fields_in (field_values fields))) (level_in (level_number level))) (stamp_back stamp)
+    ap (λ at. option_and_then (λ level. option_map (Event at parent current level target) (fields_in (field_values fields))) (level_from_number (level_number level))) (stamp_back stamp)
     ∙ ap (option_and_then (λ level. option_map (Event stamp parent current level target) (fields_in (field_values fields)))) (level_back level)
     ∙ ap (option_map (Event stamp parent current level target)) (fields_back fields)
 step_back (Close stamp id) = ap (λ at. Some (Close at id)) (stamp_back stamp)
@@ -338,7 +338,7 @@ abbrev first_parts : List ℕ → Parsed (List Part)
 first_parts [] = None
 first_parts (byte ∷ rest) = read_parts (length rest) rest
 
-first_read : (step : Step) (rest : List ℕ) → FitsStep step → first_parts (line_of Arrays step ++ rest) ≡ Some (kind_part step ∷ values step, 10 ∷ rest)
+first_read : (step : Step) (rest : List ℕ) → FitsStep step → first_parts (step_line Arrays step ++ rest) ≡ Some (kind_part step ∷ values step, 10 ∷ rest)
 first_read step rest small =
     ap first_parts (line_is step rest)
     ∙ parts_read (length (shown (kind_part step) (values step) (10 ∷ rest))) (kind_part step) (values step) (10 ∷ rest) (enough (kind_part step) (values step) (10 ∷ rest)) (values_fit step small)
@@ -346,9 +346,9 @@ first_read step rest small =
 pub step_read : IsEachLineRead
 step_read step small =
     let bytes = shown (kind_part step) (values step) (10 ∷ []) in
-    let line : line_of Arrays step ≡ 91 ∷ bytes = sym (append-nil (line_of Arrays step)) ∙ line_is step [] in
+    let line : step_line Arrays step ≡ 91 ∷ bytes = sym (append-nil (step_line Arrays step)) ∙ line_is step [] in
     ap read_line line
-    ∙ ap (λ read. option_and_then step_in (option_and_then ended read))
+    ∙ ap (λ read. option_and_then step_in (option_and_then parts_if_ended read))
     (parts_read (length bytes) (kind_part step) (values step) (10 ∷ []) (enough (kind_part step) (values step) (10 ∷ [])) (values_fit step small))
     ∙ step_back step
 
@@ -362,7 +362,7 @@ line_read a b rest more small fits e =
     ((cc, cc))
 
 -- a line isn't empty
-some_line : (step : Step) (rest : List ℕ) → [] ≡ line_of Arrays step ++ rest → ⊥
+some_line : (step : Step) (rest : List ℕ) → [] ≡ step_line Arrays step ++ rest → ⊥
 some_line (About title) rest e = cc
 some_line (New stamp id parent name target fields) rest e = cc
 some_line (Record id fields) rest e = cc

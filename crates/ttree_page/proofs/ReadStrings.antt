@@ -3,7 +3,7 @@ use Rattle.std.proofs.Common.{◌≡◌, ◌≢◌, ◌⊎◌, inl, inr, ℕ, �
 use Rattle.std.proofs.lemmas.List.{append_assoc}
 use Rattle.std.proofs.lemmas.Bool.{cases_Bool, eqb-true, or_cases, ne_eqb}
 use Rattle.std.specs.Fmt.{digit_glyph}
-use Rattle.ttree_page.specs.Lines.{escaped, hex_pair}
+use Rattle.ttree_page.specs.Lines.{escaped_byte, hex_pair}
 use Rattle.ttree_page.specs.Strings.{Plain, Gives, digit_of, follow, next, put, read_text}
 
 glyph : (digit : ℕ) → digit < 16 → digit_of (digit_glyph false digit) ≡ digit
@@ -45,7 +45,7 @@ other byte more h (inr e) =
     ∙ ap (λ step. follow step more (λ mode. read_text mode more)) (plain byte (no_quote byte h) (no_slash byte h))
 
 any : (byte : ℕ) (more : List ℕ) → ((eqb byte 34 || eqb byte 92) ≡ true) ⊎ ((eqb byte 34 || eqb byte 92) ≡ false) →
-    read_text Plain (escaped byte ++ more) ≡ put byte (read_text Plain more)
+    read_text Plain (escaped_byte byte ++ more) ≡ put byte (read_text Plain more)
 any byte more (inl e) =
     ap (λ test. read_text Plain (cond test (92 ∷ byte ∷ []) (cond (ltb byte 32 || eqb byte 60) (codes "\\u00" ++ hex_pair byte) (byte ∷ [])) ++ more)) e
     ∙ pair byte more (or_cases (eqb byte 34) (eqb byte 92) e)
@@ -53,13 +53,13 @@ any byte more (inr e) =
     ap (λ test. read_text Plain (cond test (92 ∷ byte ∷ []) (cond (ltb byte 32 || eqb byte 60) (codes "\\u00" ++ hex_pair byte) (byte ∷ [])) ++ more)) e
     ∙ other byte more e (cases_Bool (ltb byte 32 || eqb byte 60))
 
-read-escaped : (byte : ℕ) (more : List ℕ) → read_text Plain (escaped byte ++ more) ≡ put byte (read_text Plain more)
+read-escaped : (byte : ℕ) (more : List ℕ) → read_text Plain (escaped_byte byte ++ more) ≡ put byte (read_text Plain more)
 read-escaped byte more = any byte more (cases_Bool (eqb byte 34 || eqb byte 92))
 
 -- ---- a string
 
-pub read-text : (text rest : List ℕ) → read_text Plain (flat_map escaped text ++ 34 ∷ rest) ≡ Some (text, rest)
+pub read-text : (text rest : List ℕ) → read_text Plain (flat_map escaped_byte text ++ 34 ∷ rest) ≡ Some (text, rest)
 read-text [] rest = refl
 read-text (byte ∷ text) rest =
-    ap (read_text Plain) (append_assoc (escaped byte) (flat_map escaped text) (34 ∷ rest)) ∙ read-escaped byte (flat_map escaped text ++ 34 ∷ rest)
+    ap (read_text Plain) (append_assoc (escaped_byte byte) (flat_map escaped_byte text) (34 ∷ rest)) ∙ read-escaped byte (flat_map escaped_byte text ++ 34 ∷ rest)
     ∙ ap (put byte) (read-text text rest)

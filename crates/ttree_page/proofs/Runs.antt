@@ -10,7 +10,7 @@ use Rattle.tracing_tree_layer.specs.declared.call.Call.{Call}
 use Rattle.tracing_tree_layer.specs.Layered.Answered.{Writes}
 use Rattle.tracing_tree_output.specs.Writers.{SeenWriter}
 use Rattle.ttree_page.specs.declared.form.LineForm.{LineForm}
-use Rattle.ttree_page.specs.Lines.{line_of}
+use Rattle.ttree_page.specs.Lines.{step_line}
 use Rattle.ttree_page.specs.Writing.{SeenSteps, WritesBytes, forest_after_answer, lines_of}
 use Rattle.ttree_page.specs.Runs.{Answer, AnswersEach, EndsPage, IsNotWriter, OutputHeld, accepted_steps, page, steps_if}
 use Rattle.ttree_page.specs.Steps.{About, End, steps_of}
@@ -45,7 +45,7 @@ run_is_written form (call ∷ calls) (answer ∷ answers) old new same held (bet
     let written = subst (λ (form : LineForm). Writes (lines_of form (steps_of old.forest call)) answer old.writer between.writer) same one.written in
     subst (λ (text : List ℕ). Appends old.writer.bytes new.writer.bytes text)
     (ap (λ (forest : Forest). lines_of form first ++ lines_of form (accepted_steps forest calls answers)) one.forest
-    ∙ sym (flat_map-append (line_of form) first (accepted_steps (forest_after_answer old.forest call answer) calls answers)))
+    ∙ sym (flat_map-append (step_line form) first (accepted_steps (forest_after_answer old.forest call answer) calls answers)))
     (Appends-trans old.writer.bytes between.writer.bytes new.writer.bytes (lines_of form first) (lines_of form (accepted_steps between.forest calls answers))
     (wrote form old.forest call answer old.writer between.writer held.0 written) later)
 
@@ -57,17 +57,17 @@ run_keeps_form (call ∷ calls) [] old new h = absurd h
 run_keeps_form (call ∷ calls) (answer ∷ answers) old new (between, one, others) = run_keeps_form calls answers between new others ∙ one.form
 
 -- Begin, calls and end make a page.
-page_ended : (tail : List ℕ) (old new : SeenSteps) → Writes {A = Unit {0}} (line_of old.form End ++ tail) (Ok tt) old.writer new.writer → EndsPage {A = Unit {0}} tail (Ok tt) old new
+page_ended : (tail : List ℕ) (old new : SeenSteps) → Writes {A = Unit {0}} (step_line old.form End ++ tail) (Ok tt) old.writer new.writer → EndsPage {A = Unit {0}} tail (Ok tt) old new
 page_ended tail old new h head title calls answers fresh begun first emitted held =
     let form = fresh.form in
     let same : old.form ≡ form = run_keeps_form calls answers begun old emitted ∙ first.form in
     let steps = accepted_steps begun.forest calls answers in
-    let last = subst (λ (form : LineForm). Writes {A = Unit {0}} (line_of form End ++ tail) (Ok tt) old.writer new.writer) same h in
+    let last = subst (λ (form : LineForm). Writes {A = Unit {0}} (step_line form End ++ tail) (Ok tt) old.writer new.writer) same h in
     subst (λ (forest : Forest). Appends fresh.writer.bytes new.writer.bytes (page form head title (accepted_steps forest calls answers) tail)) first.forest
-    (Appends-trans fresh.writer.bytes old.writer.bytes new.writer.bytes ((head ++ line_of form (About title)) ++ lines_of form steps) (line_of form End ++ tail)
-    (Appends-trans fresh.writer.bytes begun.writer.bytes old.writer.bytes (head ++ line_of form (About title)) (lines_of form steps) first.written.0
+    (Appends-trans fresh.writer.bytes old.writer.bytes new.writer.bytes ((head ++ step_line form (About title)) ++ lines_of form steps) (step_line form End ++ tail)
+    (Appends-trans fresh.writer.bytes begun.writer.bytes old.writer.bytes (head ++ step_line form (About title)) (lines_of form steps) first.written.0
     (run_is_written form calls answers begun old first.form held emitted)) last.0)
 
-pub ends_page : (tail : List ℕ) (answer : Result (Unit {0}) Refusal) (old new : SeenSteps) → WritesBytes (line_of old.form End ++ tail) answer old new → EndsPage tail answer old new
+pub ends_page : (tail : List ℕ) (answer : Result (Unit {0}) Refusal) (old new : SeenSteps) → WritesBytes (step_line old.form End ++ tail) answer old new → EndsPage tail answer old new
 ends_page tail (Err refusal) old new h = tt
 ends_page tail (Ok done) old new h = page_ended tail old new h.written

@@ -23,14 +23,14 @@ abbrev pub is_escaped : ℕ → Bool
 is_escaped byte = (byte == 34) || ((byte == 92) || ((byte == 60) || nat_lt byte 32))
 
 -- a byte of a string between quotes
-abbrev pub escaped : ℕ → List ℕ
-escaped byte =
+abbrev pub escaped_byte : ℕ → List ℕ
+escaped_byte byte =
     if (byte == 34) || (byte == 92) then 92 ∷ byte ∷ []
     else (if nat_lt byte 32 || (byte == 60) then codes "\\u00" ++ hex_pair byte else byte ∷ [])
 
 -- a string in quotes
-abbrev pub quoted : List ℕ → List ℕ
-quoted text = 34 ∷ flat_map escaped text ++ 34 ∷ []
+abbrev pub in_quotes : List ℕ → List ℕ
+in_quotes text = 34 ∷ flat_map escaped_byte text ++ 34 ∷ []
 
 -- ---- parts
 
@@ -44,30 +44,32 @@ key_text Arrays key = []
 key_text Objects key = 34 ∷ (key ++ codes "\":")
 
 -- a part with its key
-abbrev pub named : LineForm → List ℕ → List ℕ → List ℕ
-named form key value = key_text form key ++ value
+abbrev pub keyed_part : LineForm → List ℕ → List ℕ → List ℕ
+keyed_part form key value = key_text form key ++ value
 
 -- a duration in nanoseconds as seconds, rounded down, and the nanoseconds that are left
 abbrev pub ahead_parts : LineForm → ℤ → List (List ℕ)
 ahead_parts form time =
-    named form (codes "ahead_seconds") (signed_decimal (int_div_euclid time (pos 1_000_000_000)))
-    ∷ named form (codes "ahead_nanos") (signed_decimal (int_rem_euclid time (pos 1_000_000_000)))
+    keyed_part form (codes "ahead_seconds")
+    (signed_decimal (int_div_euclid time (pos 1_000_000_000)))
+    ∷ keyed_part form (codes "ahead_nanos")
+    (signed_decimal (int_rem_euclid time (pos 1_000_000_000)))
     ∷ []
 
 abbrev pub stamp_parts : LineForm → Stamp → List (List ℕ)
 stamp_parts form stamp =
-    named form (codes "seconds") (decimal (stamp.mono / 1_000_000_000))
-    ∷ named form (codes "nanos") (decimal (stamp.mono % 1_000_000_000))
-    ∷ ahead_parts form stamp.ahead ++ named form (codes "thread") (quoted stamp.thread) ∷ []
+    keyed_part form (codes "seconds") (decimal (stamp.mono / 1_000_000_000))
+    ∷ keyed_part form (codes "nanos") (decimal (stamp.mono % 1_000_000_000))
+    ∷ ahead_parts form stamp.ahead ++ keyed_part form (codes "thread") (in_quotes stamp.thread) ∷ []
 
 -- ---- fields
 
 abbrev pub name_and_value : Field → List (List ℕ)
-name_and_value field = quoted field.name ∷ quoted field.value ∷ []
+name_and_value field = in_quotes field.name ∷ in_quotes field.value ∷ []
 
 -- the field in an object
 abbrev pub pair : Field → List ℕ
-pair field = quoted field.name ++ 58 ∷ quoted field.value
+pair field = in_quotes field.name ++ 58 ∷ in_quotes field.value
 
 abbrev pub later_pair : Field → List ℕ
 later_pair field = after_comma (pair field)
@@ -96,13 +98,13 @@ level_text Objects Levels.Info = codes "\"info\""
 level_text Objects Levels.Warn = codes "\"warn\""
 level_text Objects Levels.Error = codes "\"error\""
 
-abbrev pub kind_of : Step → Kind
-kind_of (About title) = Kinds.About
-kind_of (New stamp id parent name target fields) = Kinds.New
-kind_of (Record id fields) = Kinds.Record
-kind_of (Event stamp parent current level target fields) = Kinds.Event
-kind_of (Close stamp id) = Kinds.Close
-kind_of End = Kinds.End
+abbrev pub step_kind : Step → Kind
+step_kind (About title) = Kinds.About
+step_kind (New stamp id parent name target fields) = Kinds.New
+step_kind (Record id fields) = Kinds.Record
+step_kind (Event stamp parent current level target fields) = Kinds.Event
+step_kind (Close stamp id) = Kinds.Close
+step_kind End = Kinds.End
 
 -- the start of a line; that of the first line has the version of the format, 2
 abbrev pub start_text : LineForm → Kind → List ℕ
@@ -120,20 +122,23 @@ start_text Objects Kinds.Close = codes "{\"step\":\"close\""
 start_text Objects Kinds.End = codes "{\"step\":\"end\""
 
 -- the parts after the start
-abbrev pub parts_of : LineForm → Step → List (List ℕ)
-parts_of form (About title) = named form (codes "title") (quoted title) ∷ []
-parts_of form (New stamp id parent name target fields) =
-    stamp_parts form stamp ++ named form (codes "id") (decimal id)
-    ∷ named form (codes "parent") (decimal parent) ∷ named form (codes "name") (quoted name)
-    ∷ named form (codes "target") (quoted target) ∷ field_parts form fields
-parts_of form (Record id fields) = named form (codes "id") (decimal id) ∷ field_parts form fields
-parts_of form (Event stamp parent current level target fields) =
-    stamp_parts form stamp ++ named form (codes "parent") (decimal parent)
-    ∷ named form (codes "current") (decimal current)
-    ∷ named form (codes "level") (level_text form level)
-    ∷ named form (codes "target") (quoted target) ∷ field_parts form fields
-parts_of form (Close stamp id) = stamp_parts form stamp ++ named form (codes "id") (decimal id) ∷ []
-parts_of form End = []
+abbrev pub step_parts : LineForm → Step → List (List ℕ)
+step_parts form (About title) = keyed_part form (codes "title") (in_quotes title) ∷ []
+step_parts form (New stamp id parent name target fields) =
+    stamp_parts form stamp ++ keyed_part form (codes "id") (decimal id)
+    ∷ keyed_part form (codes "parent") (decimal parent)
+    ∷ keyed_part form (codes "name") (in_quotes name)
+    ∷ keyed_part form (codes "target") (in_quotes target) ∷ field_parts form fields
+step_parts form (Record id fields) =
+    keyed_part form (codes "id") (decimal id) ∷ field_parts form fields
+step_parts form (Event stamp parent current level target fields) =
+    stamp_parts form stamp ++ keyed_part form (codes "parent") (decimal parent)
+    ∷ keyed_part form (codes "current") (decimal current)
+    ∷ keyed_part form (codes "level") (level_text form level)
+    ∷ keyed_part form (codes "target") (in_quotes target) ∷ field_parts form fields
+step_parts form (Close stamp id) =
+    stamp_parts form stamp ++ keyed_part form (codes "id") (decimal id) ∷ []
+step_parts form End = []
 
 -- the closing bracket
 abbrev pub bracket : LineForm → List ℕ
@@ -141,12 +146,12 @@ bracket Arrays = codes "]"
 bracket Objects = codes "}"
 
 -- the end of a line
-abbrev pub line_end : LineForm → List ℕ
-line_end form = bracket form ++ codes "\n"
+abbrev pub step_end : LineForm → List ℕ
+step_end form = bracket form ++ codes "\n"
 
-abbrev pub line_of : LineForm → Step → List ℕ
-line_of form step =
-    start_text form (kind_of step) ++ flat_map after_comma (parts_of form step) ++ line_end form
+abbrev pub step_line : LineForm → Step → List ℕ
+step_line form step =
+    start_text form (step_kind step) ++ flat_map after_comma (step_parts form step) ++ step_end form
 
 -- ---- what no input can write
 

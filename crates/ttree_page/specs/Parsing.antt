@@ -67,20 +67,20 @@ abbrev pub read_parts : ℕ → List ℕ → Parsed (List Part)
 read_parts zero bytes = None
 read_parts (suc most) bytes = after_part (λ rest. read_parts most rest) (read_part bytes)
 
-abbrev pub is_line_end : List ℕ → Bool
-is_line_end [] = false
-is_line_end (byte ∷ []) = byte == 10
-is_line_end bytes = false
+abbrev pub is_only_line_end : List ℕ → Bool
+is_only_line_end [] = false
+is_only_line_end (byte ∷ []) = byte == 10
+is_only_line_end bytes = false
 
 -- the parts, if the line ends after them
-abbrev pub ended : List Part × List ℕ → Option (List Part)
-ended read = if is_line_end read.1 then Some read.0 else None
+abbrev pub parts_if_ended : List Part × List ℕ → Option (List Part)
+parts_if_ended read = if is_only_line_end read.1 then Some read.0 else None
 
 -- the parts of a whole line; there are fewer than bytes
 abbrev pub parts_in : List ℕ → Option (List Part)
 parts_in [] = None
 parts_in (byte ∷ rest) =
-    if byte == 91 then option_and_then ended (read_parts (length rest) rest) else None
+    if byte == 91 then option_and_then parts_if_ended (read_parts (length rest) rest) else None
 
 -- ---- the step of a line
 
@@ -90,8 +90,8 @@ fields_in (Text name ∷ Text value ∷ parts) =
     option_map (λ fields. record { name = name; value = value } ∷ fields) (fields_in parts)
 fields_in parts = None
 
-abbrev pub level_in : ℕ → Option Level
-level_in number =
+abbrev pub level_from_number : ℕ → Option Level
+level_from_number number =
     if number == 0 then Some Levels.Trace
     else (if number == 1 then Some Levels.Debug
     else (if number == 2 then Some Levels.Info
@@ -131,7 +131,7 @@ event_in stamp
     (Number (pos parent) ∷ Number (pos current) ∷ Number (pos level) ∷ Text target ∷ parts) =
     option_and_then
     (λ level. option_map (Event stamp parent current level target) (fields_in parts))
-    (level_in level)
+    (level_from_number level)
 event_in stamp parts = None
 
 abbrev pub close_in : Stamp → List Part → Option Step
@@ -143,8 +143,8 @@ end_in [] = Some End
 end_in parts = None
 
 -- the step of a kind from the parts after it
-abbrev pub kind_in : ℕ → List Part → Option Step
-kind_in kind parts =
+abbrev pub step_of_kind : ℕ → List Part → Option Step
+step_of_kind kind parts =
     if kind == 0 then about_in parts
     else (if kind == 1 then with_stamp new_in parts
     else (if kind == 2 then record_in parts
@@ -153,7 +153,7 @@ kind_in kind parts =
     else (if kind == 5 then end_in parts else None)))))
 
 abbrev pub step_in : List Part → Option Step
-step_in (Number (pos kind) ∷ parts) = kind_in kind parts
+step_in (Number (pos kind) ∷ parts) = step_of_kind kind parts
 step_in parts = None
 
 -- the step of a whole line, with its line end

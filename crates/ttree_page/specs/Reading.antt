@@ -3,7 +3,7 @@ use Rattle.std.specs.Prelude.{◌≡◌, ℕ, suc, ◌^◌, ◌<◌, ◌==◌, n
 use Rattle.std.specs.Int.{int_div_euclid}
 use Rattle.std.specs.List.{list_all}
 use Rattle.ttree_page.specs.declared.form.LineForm.TheVariants.{Arrays}
-use Rattle.ttree_page.specs.Lines.{line_of}
+use Rattle.ttree_page.specs.Lines.{step_line}
 use Rattle.ttree_page.specs.Parsing.{read_line, read_lines}
 use Rattle.ttree_page.specs.Steps.{Stamp, Step, About, New, Record, Event, Close, End}
 use Rattle.ttree_page.specs.Writing.{lines_of}
@@ -33,7 +33,7 @@ FitsStep End = ⊤
 
 -- A reader of a step's line reads that step.
 abbrev pub IsEachLineRead : Type 0
-IsEachLineRead = (step : Step) → FitsStep step → read_line (line_of Arrays step) ≡ Some step
+IsEachLineRead = (step : Step) → FitsStep step → read_line (step_line Arrays step) ≡ Some step
 
 -- A reader of the lines of steps reads these steps, and nothing is left.
 abbrev pub AreLinesRead : Type 0
@@ -67,7 +67,7 @@ AreCutLinesRead =
 abbrev pub IsEachLineReadBack : Type 0
 IsEachLineReadBack =
     (a b : Step) (rest more : List ℕ) → FitsStep a → FitsStep b
-    → line_of Arrays a ++ rest ≡ line_of Arrays b ++ more → (a ≡ b) × (rest ≡ more)
+    → step_line Arrays a ++ rest ≡ step_line Arrays b ++ more → (a ≡ b) × (rest ≡ more)
 
 -- The same lines are those of the same steps: what is in a page is what was called.
 abbrev pub AreLinesReadBack : Type 0

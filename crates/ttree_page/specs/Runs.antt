@@ -7,7 +7,7 @@ use Rattle.tracing_tree_layer.specs.declared.call.Call.{Call}
 use Rattle.tracing_tree_layer.specs.declared.call.Reply.{Reply}
 use Rattle.ttree_page.specs.declared.form.LineForm.{LineForm}
 use Rattle.tracing_tree_output.specs.Writers.{SeenWriter}
-use Rattle.ttree_page.specs.Lines.{line_of}
+use Rattle.ttree_page.specs.Lines.{step_line}
 use Rattle.ttree_page.specs.Writing.{Answers, SeenSteps, WritesBytes, forest_after_answer, lines_of}
 use Rattle.ttree_page.specs.Steps.{Step, About, End, steps_of}
 use Rattle.tracing_tree_spans.specs.Registry.Forest.{Forest}
@@ -46,7 +46,7 @@ OutputHeld (answer ∷ answers) = IsNotWriter answer × OutputHeld answers
 -- a whole page: the head, a line for each step, and the tail
 abbrev pub page : LineForm → List ℕ → List ℕ → List Step → List ℕ → List ℕ
 page form head title steps tail =
-    (head ++ line_of form (About title)) ++ lines_of form steps ++ (line_of form End ++ tail)
+    (head ++ step_line form (About title)) ++ lines_of form steps ++ (step_line form End ++ tail)
 
 -- If an end is written after a beginning and these calls, and the output took everything, then the
 -- whole is the page of the steps of the accepted calls.
@@ -54,7 +54,7 @@ abbrev pub EndsPage : {A : Type 0} → List ℕ → Result A Refusal → SeenSte
 EndsPage tail (Err refusal) old new = ⊤
 EndsPage tail (Ok done) old new =
     (head title : List ℕ) (calls : List Call) (answers : List Answer) (fresh begun : SeenSteps) →
-    WritesBytes {A = Unit {0}} (head ++ line_of fresh.form (About title)) (Ok tt) fresh begun
+    WritesBytes {A = Unit {0}} (head ++ step_line fresh.form (About title)) (Ok tt) fresh begun
     → AnswersEach calls answers begun old → OutputHeld answers
     → Appends fresh.writer.bytes new.writer.bytes
     (page fresh.form head title (accepted_steps fresh.forest calls answers) tail)

@@ -44,19 +44,19 @@ pub data Step : Type 0 where
 -- ---- the steps of calls
 
 -- the number of a span that may be missing
-abbrev pub number_of : Option Id → ℕ
-number_of None = 0
-number_of (Some i) = i.0
+abbrev pub span_number : Option Id → ℕ
+span_number None = 0
+span_number (Some i) = i.0
 
 abbrev pub new_step : Context → Id → Attributes → Step
 new_step context i attributes =
-    New (stamp_of context) i.0 (number_of (named_parent attributes.parent context.current))
+    New (stamp_of context) i.0 (span_number (named_parent attributes.parent context.current))
     attributes.name attributes.target attributes.fields
 
 -- the event in its parent, while this span is the current one
 abbrev pub event_step : Context → Option Id → Option Id → Recorded.Event → Step
 event_step context parent current event =
-    Event (stamp_of context) (number_of parent) (number_of current) event.level event.target
+    Event (stamp_of context) (span_number parent) (span_number current) event.level event.target
     event.fields
 
 -- a record's call has no moment, and neither has its step

@@ -14,7 +14,7 @@ use Rattle.tracing_tree_layer.specs.declared.call.Reply.{Reply}
 use Rattle.tracing_tree_output.specs.declared.output.Output.{Ghosts as Output}
 use Rattle.tracing_tree_output.specs.Writers.{SeenWriter, seen_writer}
 use Rattle.ttree_page.specs.declared.form.LineForm.{LineForm}
-use Rattle.ttree_page.specs.Lines.{IsHarmless, line_of}
+use Rattle.ttree_page.specs.Lines.{IsHarmless, step_line}
 use Rattle.ttree_page.specs.Steps.{Step, steps_of, forest_after}
 use Rattle.tracing_tree_spans.specs.Registry.Forest.{Forest}
 use Rattle.tracing_tree_spans.specs.Registry.Registered.{IsNewSpan, missing_parent}
@@ -37,7 +37,7 @@ seen_steps output it =
     record { form = it.form; forest = it.forest; writer = seen_writer output it.writer }
 
 abbrev pub lines_of : LineForm → List Step → List ℕ
-lines_of form steps = flat_map (line_of form) steps
+lines_of form steps = flat_map (step_line form) steps
 
 -- the id that a new span gets, or the refusal if it gets no id
 abbrev pub IsFree : Attributes → Context → Result Id Refusal → Forest → Type 0
@@ -103,4 +103,4 @@ pub record PassesOn (old new : SeenSteps) : Type 0 where
 -- Whatever a step has in it, its line has no `<`, and no control character except the line end that
 -- ends it. So no input can end the element that contains the lines.
 abbrev pub AreLinesHarmless : Type 0
-AreLinesHarmless = (form : LineForm) (step : Step) → IsHarmless (line_of form step)
+AreLinesHarmless = (form : LineForm) (step : Step) → IsHarmless (step_line form step)

@@ -1,7 +1,7 @@
 //! Forms and kinds of lines.
 
 ghost use Rattle.std.specs.Prelude.{◌≡◌};
-ghost use Rattle.ttree_page.specs.Lines.{level_text, line_end, start_text};
+ghost use Rattle.ttree_page.specs.Lines.{level_text, start_text, step_end};
 
 use tracing_tree_base::style::Level;
 
@@ -48,7 +48,7 @@ pub(crate) fn start_text(form: LineForm, kind: Kind) -> &'static str
 
 // Returns the end of a line.
 pub(crate) fn line_end(form: LineForm) -> &'static str
-    ensures { result.now ≡ line_end form }
+    ensures { result.now ≡ step_end form }
 {
     match form {
         LineForm::Arrays => "]\n",

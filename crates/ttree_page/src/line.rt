@@ -3,8 +3,8 @@
 //! After an error, each of these may have appended a prefix of its line.
 
 ghost use Rattle.std.specs.Prelude.{◌≡◌, ◌++◌, OnOk, string_bytes, flat_map, codes, decimal};
-ghost use Rattle.ttree_page.specs.Lines.{after_comma, field_parts, line_end, line_of, named, quoted, stamp_parts, start_text};
-ghost use Rattle.ttree_page.specs.Steps.{About, End, close_step, event_step, new_step, number_of, record_step, stamp_of};
+ghost use Rattle.ttree_page.specs.Lines.{after_comma, field_parts, in_quotes, keyed_part, stamp_parts, start_text, step_end, step_line};
+ghost use Rattle.ttree_page.specs.Steps.{About, End, close_step, event_step, new_step, record_step, span_number, stamp_of};
 ghost use Rattle.tracing_tree_base.specs.Extended.{IsExtended};
 
 use crate::form::{Kind, LineForm, line_end, start_text};
@@ -17,7 +17,7 @@ use tracing_tree_spans::registry::{Attributes, Event};
 // Appends the first line, with the title.
 pub(crate) fn push_about(out: &mut String, form: LineForm, title: &str) -> Result<(), AllocError>
     ensures ok { OnOk result
-        (string_bytes out.new ≡ string_bytes out.old ++ line_of form (About title.now)) }
+        (string_bytes out.new ≡ string_bytes out.old ++ step_line form (About title.now)) }
     ensures extended { IsExtended (string_bytes out.old) (string_bytes out.new) }
 {
     out.push_str(start_text(form, Kind::About))?;
@@ -27,7 +27,7 @@ pub(crate) fn push_about(out: &mut String, form: LineForm, title: &str) -> Resul
 
 // Appends the last line.
 pub(crate) fn push_finish(out: &mut String, form: LineForm) -> Result<(), AllocError>
-    ensures ok { OnOk result (string_bytes out.new ≡ string_bytes out.old ++ line_of form End) }
+    ensures ok { OnOk result (string_bytes out.new ≡ string_bytes out.old ++ step_line form End) }
     ensures extended { IsExtended (string_bytes out.old) (string_bytes out.new) }
 {
     out.push_str(start_text(form, Kind::End))?;
@@ -43,7 +43,7 @@ pub(crate) fn push_new(
     attributes: &Attributes,
 ) -> Result<(), AllocError>
     ensures ok { let step = new_step context.now id attributes.now in
-        OnOk result (string_bytes out.new ≡ string_bytes out.old ++ line_of form step) }
+        OnOk result (string_bytes out.new ≡ string_bytes out.old ++ step_line form step) }
     ensures extended { IsExtended (string_bytes out.old) (string_bytes out.new) }
 {
     let parent = attributes.parent.named(context.current);
@@ -66,7 +66,7 @@ pub(crate) fn push_record(
     fields: &[Field],
 ) -> Result<(), AllocError>
     ensures ok { let step = record_step id fields.now in
-        OnOk result (string_bytes out.new ≡ string_bytes out.old ++ line_of form step) }
+        OnOk result (string_bytes out.new ≡ string_bytes out.old ++ step_line form step) }
     ensures extended { IsExtended (string_bytes out.old) (string_bytes out.new) }
 {
     out.push_str(start_text(form, Kind::Record))?;
@@ -84,7 +84,7 @@ pub(crate) fn push_event(
     event: &Event,
 ) -> Result<(), AllocError>
     ensures ok { let step = event_step context.now parent current event.now in
-        OnOk result (string_bytes out.new ≡ string_bytes out.old ++ line_of form step) }
+        OnOk result (string_bytes out.new ≡ string_bytes out.old ++ step_line form step) }
     ensures extended { IsExtended (string_bytes out.old) (string_bytes out.new) }
 {
     push_start(out, form, Kind::Event, context)?;
@@ -102,7 +102,7 @@ pub(crate) fn push_close(
     id: Id,
 ) -> Result<(), AllocError>
     ensures ok { let step = close_step context.now id in
-        OnOk result (string_bytes out.new ≡ string_bytes out.old ++ line_of form step) }
+        OnOk result (string_bytes out.new ≡ string_bytes out.old ++ step_line form step) }
     ensures extended { IsExtended (string_bytes out.old) (string_bytes out.new) }
 {
     push_start(out, form, Kind::Close, context)?;
@@ -128,8 +128,9 @@ fn push_start(
 
 // Appends the id of a span and that of its parent.
 fn push_ids(out: &mut String, form: LineForm, id: Id, parent: Option<Id>) -> Result<(), AllocError>
-    ensures ok { let first = after_comma (named form (codes "id") (decimal id.0)) in
-        let second = after_comma (named form (codes "parent") (decimal (number_of parent))) in
+    ensures ok { let first = after_comma (keyed_part form (codes "id") (decimal id.0)) in
+        let second = after_comma
+        (keyed_part form (codes "parent") (decimal (span_number parent))) in
         OnOk result (string_bytes out.new ≡ string_bytes out.old ++ (first ++ second)) }
     ensures extended { IsExtended (string_bytes out.old) (string_bytes out.new) }
 {
@@ -139,8 +140,8 @@ fn push_ids(out: &mut String, form: LineForm, id: Id, parent: Option<Id>) -> Res
 
 // Appends the name and the target of a span.
 fn push_names(out: &mut String, form: LineForm, name: &str, target: &str) -> Result<(), AllocError>
-    ensures ok { let first = after_comma (named form (codes "name") (quoted name.now)) in
-        let second = after_comma (named form (codes "target") (quoted target.now)) in
+    ensures ok { let first = after_comma (keyed_part form (codes "name") (in_quotes name.now)) in
+        let second = after_comma (keyed_part form (codes "target") (in_quotes target.now)) in
         OnOk result (string_bytes out.new ≡ string_bytes out.old ++ (first ++ second)) }
     ensures extended { IsExtended (string_bytes out.old) (string_bytes out.new) }
 {
@@ -155,9 +156,11 @@ fn push_place(
     parent: Option<Id>,
     current: Option<Id>,
 ) -> Result<(), AllocError>
-    ensures ok { let first = after_comma (named form (codes "parent") (decimal (number_of parent)))
+    ensures ok { let first = after_comma
+        (keyed_part form (codes "parent") (decimal (span_number parent)))
         in
-        let second = after_comma (named form (codes "current") (decimal (number_of current))) in
+        let second = after_comma
+        (keyed_part form (codes "current") (decimal (span_number current))) in
         OnOk result (string_bytes out.new ≡ string_bytes out.old ++ (first ++ second)) }
     ensures extended { IsExtended (string_bytes out.old) (string_bytes out.new) }
 {
@@ -168,7 +171,7 @@ fn push_place(
 // Appends the fields, which are the last parts, and the end of the line.
 fn push_end(out: &mut String, form: LineForm, fields: &[Field]) -> Result<(), AllocError>
     ensures ok { let parts = flat_map after_comma (field_parts form fields.now) in
-        OnOk result (string_bytes out.new ≡ string_bytes out.old ++ (parts ++ line_end form)) }
+        OnOk result (string_bytes out.new ≡ string_bytes out.old ++ (parts ++ step_end form)) }
     ensures extended { IsExtended (string_bytes out.old) (string_bytes out.new) }
 {
     push_fields(out, form, fields)?;
@@ -177,7 +180,7 @@ fn push_end(out: &mut String, form: LineForm, fields: &[Field]) -> Result<(), Al
 
 // Returns the number of a span that may be missing.
 fn number_of(id: Option<Id>) -> u64
-    ensures { result ≡ number_of id }
+    ensures { result ≡ span_number id }
 {
     match id {
         Some(id) => id.0,

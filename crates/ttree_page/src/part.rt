@@ -6,7 +6,7 @@ ghost use Rattle.std.specs.Prelude.{◌≡◌, ℕ, ◌++◌, ◌∷◌, [], pos
 ghost use Rattle.std.specs.Fmt.{signed_decimal};
 ghost use Rattle.std.specs.Int.{int_div_euclid, int_rem_euclid};
 ghost use Rattle.tracing_tree_drawing.specs.Format.Texts.{thread_name_text};
-ghost use Rattle.ttree_page.specs.Lines.{after_comma, ahead_parts, escaped, field_parts, key_text, level_text, name_and_value, named, later_pair, pair, pairs, stamp_parts, quoted};
+ghost use Rattle.ttree_page.specs.Lines.{after_comma, ahead_parts, escaped_byte, field_parts, key_text, level_text, name_and_value, keyed_part, later_pair, pair, pairs, stamp_parts, in_quotes};
 ghost use Rattle.ttree_page.specs.Steps.{stamp_of, thread_text};
 ghost use Rattle.tracing_tree_base.specs.Extended.{IsExtended};
 
@@ -51,7 +51,7 @@ pub(crate) fn push_number(
     number: u64,
 ) -> Result<(), AllocError>
     ensures ok { OnOk result (string_bytes out.new
-        ≡ string_bytes out.old ++ after_comma (named form key.now (decimal number))) }
+        ≡ string_bytes out.old ++ after_comma (keyed_part form key.now (decimal number))) }
     ensures extended { IsExtended (string_bytes out.old) (string_bytes out.new) }
 {
     push_key(out, form, key)?;
@@ -61,7 +61,7 @@ pub(crate) fn push_number(
 // Appends a number that may be below zero.
 fn push_signed(out: &mut String, form: LineForm, key: &str, number: i128) -> Result<(), AllocError>
     ensures ok { OnOk result (string_bytes out.new
-        ≡ string_bytes out.old ++ after_comma (named form key.now (signed_decimal number))) }
+        ≡ string_bytes out.old ++ after_comma (keyed_part form key.now (signed_decimal number))) }
     ensures extended { IsExtended (string_bytes out.old) (string_bytes out.new) }
 {
     push_key(out, form, key)?;
@@ -76,7 +76,7 @@ pub(crate) fn push_string(
     text: &str,
 ) -> Result<(), AllocError>
     ensures ok { OnOk result (string_bytes out.new
-        ≡ string_bytes out.old ++ after_comma (named form key.now (quoted text.now))) }
+        ≡ string_bytes out.old ++ after_comma (keyed_part form key.now (in_quotes text.now))) }
     ensures extended { IsExtended (string_bytes out.old) (string_bytes out.new) }
 {
     push_key(out, form, key)?;
@@ -86,7 +86,7 @@ pub(crate) fn push_string(
 // Appends a level.
 pub(crate) fn push_level(out: &mut String, form: LineForm, level: Level) -> Result<(), AllocError>
     ensures ok { OnOk result (string_bytes out.new
-        ≡ string_bytes out.old ++ after_comma (named form (codes "level") (level_text form level))) }
+        ≡ string_bytes out.old ++ after_comma (keyed_part form (codes "level") (level_text form level))) }
     ensures extended { IsExtended (string_bytes out.old) (string_bytes out.new) }
 {
     push_key(out, form, "level")?;
@@ -123,7 +123,7 @@ fn push_names_and_values(out: &mut String, fields: &[Field]) -> Result<(), Alloc
 
 fn push_after_comma(out: &mut String, text: &str) -> Result<(), AllocError>
     ensures ok { OnOk result
-        (string_bytes out.new ≡ string_bytes out.old ++ after_comma (quoted text.now)) }
+        (string_bytes out.new ≡ string_bytes out.old ++ after_comma (in_quotes text.now)) }
     ensures extended { IsExtended (string_bytes out.old) (string_bytes out.new) }
 {
     out.push_str(",")?;
@@ -229,7 +229,7 @@ fn push_ahead(out: &mut String, form: LineForm, context: &Context) -> Result<(),
 fn push_ahead_seconds(out: &mut String, form: LineForm, context: &Context) -> Result<(), AllocError>
     ensures ok { let number = int_div_euclid (stamp_of context.now).ahead (pos 1_000_000_000) in
         OnOk result (string_bytes out.new ≡ string_bytes out.old
-        ++ after_comma (named form (codes "ahead_seconds") (signed_decimal number))) }
+        ++ after_comma (keyed_part form (codes "ahead_seconds") (signed_decimal number))) }
     ensures extended { IsExtended (string_bytes out.old) (string_bytes out.new) }
 {
     push_key(out, form, "ahead_seconds")?;
@@ -247,7 +247,7 @@ fn push_whole_seconds(out: &mut String, context: &Context) -> Result<(), AllocEr
 fn push_ahead_nanos(out: &mut String, form: LineForm, context: &Context) -> Result<(), AllocError>
     ensures ok { let number = int_rem_euclid (stamp_of context.now).ahead (pos 1_000_000_000) in
         OnOk result (string_bytes out.new ≡ string_bytes out.old
-        ++ after_comma (named form (codes "ahead_nanos") (signed_decimal number))) }
+        ++ after_comma (keyed_part form (codes "ahead_nanos") (signed_decimal number))) }
     ensures extended { IsExtended (string_bytes out.old) (string_bytes out.new) }
 {
     push_signed(out, form, "ahead_nanos", ahead_nanos(context))
@@ -255,8 +255,9 @@ fn push_ahead_nanos(out: &mut String, form: LineForm, context: &Context) -> Resu
 
 // Appends the number of the thread, and its name if it has one.
 fn push_thread(out: &mut String, form: LineForm, context: &Context) -> Result<(), AllocError>
-    ensures ok { let thread = quoted (thread_text context.now) in OnOk result (string_bytes out.new
-        ≡ string_bytes out.old ++ after_comma (named form (codes "thread") thread)) }
+    ensures ok { let thread = in_quotes (thread_text context.now) in
+        OnOk result (string_bytes out.new
+        ≡ string_bytes out.old ++ after_comma (keyed_part form (codes "thread") thread)) }
     ensures extended { IsExtended (string_bytes out.old) (string_bytes out.new) }
 {
     push_key(out, form, "thread")?;
@@ -265,7 +266,7 @@ fn push_thread(out: &mut String, form: LineForm, context: &Context) -> Result<()
 
 fn push_quoted_thread(out: &mut String, context: &Context) -> Result<(), AllocError>
     ensures ok { OnOk result
-        (string_bytes out.new ≡ string_bytes out.old ++ quoted (thread_text context.now)) }
+        (string_bytes out.new ≡ string_bytes out.old ++ in_quotes (thread_text context.now)) }
     ensures extended { IsExtended (string_bytes out.old) (string_bytes out.new) }
 {
     out.push_str("\"")?;
@@ -277,7 +278,7 @@ fn push_quoted_thread(out: &mut String, context: &Context) -> Result<(), AllocEr
 // Appends a colon and the name of the thread, if it has one.
 fn push_thread_name(out: &mut String, context: &Context) -> Result<(), AllocError>
     ensures ok { let name = thread_name_text true context.now.thread_name in
-        OnOk result (string_bytes out.new ≡ string_bytes out.old ++ flat_map escaped name) }
+        OnOk result (string_bytes out.new ≡ string_bytes out.old ++ flat_map escaped_byte name) }
     ensures extended { IsExtended (string_bytes out.old) (string_bytes out.new) }
 {
     let Some(name) = &context.thread_name else {

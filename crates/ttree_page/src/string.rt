@@ -3,14 +3,14 @@
 ghost use Rattle.std.specs.Prelude.{◌≡◌, ◌++◌, ◌∷◌, [], ◌<◌, false, codes, OnOk, string_bytes, encode_utf8, flat_map};
 ghost use Rattle.std.specs.Fmt.{digit_glyph};
 ghost use Rattle.std.specs.List.{list_any};
-ghost use Rattle.ttree_page.specs.Lines.{escaped, hex_pair, is_escaped, quoted};
+ghost use Rattle.ttree_page.specs.Lines.{escaped_byte, hex_pair, in_quotes, is_escaped};
 ghost use Rattle.tracing_tree_base.specs.Extended.{IsExtended};
 
 use std::alloc::AllocError;
 
 // Appends a string in quotes. After an error, a prefix of it may have been appended.
 pub(crate) fn push_quoted(out: &mut String, text: &str) -> Result<(), AllocError>
-    ensures ok { OnOk result (string_bytes out.new ≡ string_bytes out.old ++ quoted text.now) }
+    ensures ok { OnOk result (string_bytes out.new ≡ string_bytes out.old ++ in_quotes text.now) }
     ensures extended { IsExtended (string_bytes out.old) (string_bytes out.new) }
 {
     out.push_str("\"")?;
@@ -22,7 +22,7 @@ pub(crate) fn push_quoted(out: &mut String, text: &str) -> Result<(), AllocError
 #[tactic(auto, using(crate::proofs::Kept::unescaped))]
 pub(crate) fn push_escaped(out: &mut String, text: &str) -> Result<(), AllocError>
     ensures ok { OnOk result
-        (string_bytes out.new ≡ string_bytes out.old ++ flat_map escaped text.now) }
+        (string_bytes out.new ≡ string_bytes out.old ++ flat_map escaped_byte text.now) }
     ensures extended { IsExtended (string_bytes out.old) (string_bytes out.new) }
 {
     if has_escaped(text) {
@@ -54,7 +54,7 @@ fn is_escaped(byte: u8) -> bool
 
 fn push_with_escapes(out: &mut String, text: &str) -> Result<(), AllocError>
     ensures ok { OnOk result
-        (string_bytes out.new ≡ string_bytes out.old ++ flat_map escaped text.now) }
+        (string_bytes out.new ≡ string_bytes out.old ++ flat_map escaped_byte text.now) }
     ensures extended { IsExtended (string_bytes out.old) (string_bytes out.new) }
 {
     for c in text.chars() {
@@ -66,7 +66,7 @@ fn push_with_escapes(out: &mut String, text: &str) -> Result<(), AllocError>
 // Appends a character as it appears between quotes.
 fn push_char(out: &mut String, c: char) -> Result<(), AllocError>
     ensures ok { OnOk result
-        (string_bytes out.new ≡ string_bytes out.old ++ flat_map escaped (encode_utf8 c)) }
+        (string_bytes out.new ≡ string_bytes out.old ++ flat_map escaped_byte (encode_utf8 c)) }
     ensures extended { IsExtended (string_bytes out.old) (string_bytes out.new) }
 {
     match c {

@@ -4,7 +4,7 @@ ghost use Rattle.std.specs.Prelude.{◌≡◌, ◌++◌, IfErr, OnOk, map, strin
 ghost use Rattle.tracing_tree_layer.specs.Layered.Answered.{Writes};
 ghost use Rattle.tracing_tree_layer.specs.Replies.{answer_as, cloned, closed, done, span};
 ghost use Rattle.tracing_tree_output.specs.Writers.{seen_writer};
-ghost use Rattle.ttree_page.specs.Lines.{line_of};
+ghost use Rattle.ttree_page.specs.Lines.{step_line};
 ghost use Rattle.ttree_page.specs.Reading.{AreCutLinesRead, AreLinesRead, AreLinesReadBack, IsEachLineRead, IsEachLineReadBack};
 ghost use Rattle.ttree_page.specs.Runs.{EndsPage, RunsWritePrefixes};
 ghost use Rattle.ttree_page.specs.Steps.{About, End, close_step};
@@ -74,7 +74,7 @@ impl<W: Output> StepWriter<W> {
     /// `Writer`, a prefix of these bytes may have been written.
     #[tactic(auto, using(crate::proofs::Harmless::lines_are_harmless, crate::proofs::Prefixes::runs_write_prefixes, crate::proofs::ReadLines::step_read, crate::proofs::ReadFiles::lines_are_read, crate::proofs::ReadFiles::cut_lines_are_read, crate::proofs::ReadLines::line_read, crate::proofs::ReadLines::lines_read))]
     pub fn begin(&mut self, head: &str, title: &str) -> Result<(), Refusal>
-        ensures written { WritesBytes (head.now ++ line_of self.old.form (About title.now)) result
+        ensures written { WritesBytes (head.now ++ step_line self.old.form (About title.now)) result
             (seen_steps W.Output self.old) (seen_steps W.Output self.new) }
         ensures harmless { AreLinesHarmless }
         ensures prefixes { RunsWritePrefixes }
@@ -101,7 +101,7 @@ impl<W: Output> StepWriter<W> {
     /// As for [`StepWriter::begin`].
     #[tactic(auto, using(crate::proofs::Runs::ends_page))]
     pub fn end(&mut self, tail: &str) -> Result<(), Refusal>
-        ensures written { WritesBytes (line_of self.old.form End ++ tail.now) result
+        ensures written { WritesBytes (step_line self.old.form End ++ tail.now) result
             (seen_steps W.Output self.old) (seen_steps W.Output self.new) }
         ensures page { EndsPage tail.now result
             (seen_steps W.Output self.old) (seen_steps W.Output self.new) }

@@ -3,7 +3,7 @@ use Rattle.std.proofs.Common.{◌≡◌, ◌<◌, ◌+◌, ℕ, Bool, true, fals
 use Rattle.std.specs.Prelude.{◌==◌, if◌then◌else◌}
 use Rattle.std.specs.Str.{IsCharBoundary}
 use Rattle.std.proofs.lemmas.Bool.{and_parts, eqb-true}
-use Rattle.ttree_prefix.specs.Mark.{ends_here, left_after, place_after, place_of}
+use Rattle.ttree_prefix.specs.Mark.{ends_here, left_after, place_after, prefix_end}
 use Rattle.ttree_prefix.specs.declared.mark.Mark.{Mark}
 use Rattle.ttree_prefix.specs.declared.mark.Mark.TheVariants.{Bar, Bracket, Job, Time, Tab, Colon, DateTime, Pod, Stamp}
 
@@ -54,7 +54,7 @@ ascii_boundary between left first others line place ascii h =
     let same : get_or line place 0 ≡ first = found.1 in
     (omega (arith, inside), λ _ high. absurd (omega (arith, high, same, ascii)))
 
-pub boundary : (mark : Mark) (line : List ℕ) (place : ℕ) → place_of mark line ≡ Some place
+pub boundary : (mark : Mark) (line : List ℕ) (place : ℕ) → prefix_end mark line ≡ Some place
     → IsCharBoundary line place
 boundary Bar line place h = ascii_boundary 32 0 124 [] line place (lit< tt) h
 boundary Bracket line place h = ascii_boundary 32 0 93 [] line place (lit< tt) h

@@ -4,7 +4,7 @@ use Rattle.json.specs.Json.{null}
 use Rattle.ttree_prefix.specs.Blank.{without_blank}
 use Rattle.ttree_prefix.specs.Color.{after_color}
 use Rattle.ttree_prefix.specs.Mark.{are_names, at_mark, is_prefix, split, trimmed}
-use Rattle.ttree_prefix.specs.Prefix.{parts_of}
+use Rattle.ttree_prefix.specs.Prefix.{prefix_parts}
 use Rattle.ttree_prefix.specs.declared.mark.Mark.TheVariants.{Bar, Bracket, Job, Time, Tab, Colon, DateTime, Pod, Stamp}
 
 pub a_service_of_docker_compose : at_mark Bar (codes "web-1|a|b") ≡ Some (codes "web-1", codes "a|b")
@@ -65,5 +65,5 @@ a_colour_of_docker_compose = refl
 pub a_sequence_without_a_colour : after_color (27 ∷ codes "[2Kam") ≡ None
 a_sequence_without_a_colour = refl
 
-pub a_line_that_is_json_has_no_prefix : parts_of (Some Bar) (codes "null") (Some null) ≡ None
+pub a_line_that_is_json_has_no_prefix : prefix_parts (Some Bar) (codes "null") (Some null) ≡ None
 a_line_that_is_json_has_no_prefix = refl

@@ -21,16 +21,16 @@ mark_text Pod = codes " "
 mark_text Stamp = codes " "
 
 -- what is between the parts of a prefix: a tab after a job and a step, a blank otherwise
-abbrev pub separator : Mark → ℕ
-separator Bar = 32
-separator Bracket = 32
-separator Job = 9
-separator Time = 32
-separator Tab = 32
-separator Colon = 32
-separator DateTime = 32
-separator Pod = 32
-separator Stamp = 32
+abbrev pub part_separator : Mark → ℕ
+part_separator Bar = 32
+part_separator Bracket = 32
+part_separator Job = 9
+part_separator Time = 32
+part_separator Tab = 32
+part_separator Colon = 32
+part_separator DateTime = 32
+part_separator Pod = 32
+part_separator Stamp = 32
 
 -- how many separators come before the last part: a job, a step and a time have two, and so have a
 -- month, a day and a time; a date and a time have one, and so have a pod and a container
@@ -62,12 +62,12 @@ place_after between left end (byte ∷ rest) =
     rest)
 
 -- the place where a prefix ends
-abbrev pub place_of : Mark → List ℕ → Option ℕ
-place_of mark line = place_after (separator mark) (separators mark) (mark_text mark) line
+abbrev pub prefix_end : Mark → List ℕ → Option ℕ
+prefix_end mark line = place_after (part_separator mark) (separators mark) (mark_text mark) line
 
 -- a line at its mark: what comes before it and after it
 abbrev pub at_mark : Mark → List ℕ → Option (List ℕ × List ℕ)
-at_mark mark line = parts (place_of mark line) where
+at_mark mark line = parts (prefix_end mark line) where
   parts : Option ℕ → Option (List ℕ × List ℕ)
   parts None = None
   parts (Some place) =

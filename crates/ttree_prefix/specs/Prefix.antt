@@ -6,9 +6,9 @@ use Rattle.tracing_tree_base.specs.declared.field.Field.{Field}
 use Rattle.tracing_tree_layer.specs.declared.call.Call.{Call}
 use Rattle.tracing_tree_layer.specs.declared.call.Call.TheVariants.{New, Clone, Record, Event, Close}
 use Rattle.ttree_source.specs.Source.{Step}
-use Rattle.ttree_source.specs.Calls.{shown}
+use Rattle.ttree_source.specs.Calls.{shown_text}
 use Rattle.ttree_prefix.specs.Mark.{split}
-use Rattle.ttree_prefix.specs.Streams.{calls_in, last_span, names_stream, span_in, with_span}
+use Rattle.ttree_prefix.specs.Streams.{calls_in, last_span, names_stream, stream_span, with_stream_span}
 use Rattle.ttree_prefix.specs.declared.mark.Mark.{Mark}
 use Rattle.ttree_prefix.specs.declared.streams.Stream.{Stream}
 
@@ -19,13 +19,13 @@ pub record Marked (S : Type 0) : Type 0 where
   pub streams : List Stream
 
 -- the prefix of a line that isn't JSON, and what comes after it
-abbrev pub parts_of : Option Mark → List ℕ → Option Json → Option (List ℕ × List ℕ)
-parts_of None line value = None
-parts_of (Some mark) line None = split mark line
-parts_of (Some mark) line (Some value) = None
+abbrev pub prefix_parts : Option Mark → List ℕ → Option Json → Option (List ℕ × List ℕ)
+prefix_parts None line value = None
+prefix_parts (Some mark) line None = split mark line
+prefix_parts (Some mark) line (Some value) = None
 
 abbrev pub prefix_field : List ℕ → List Field
-prefix_field prefix = record { name = codes "prefix"; value = shown prefix } ∷ []
+prefix_field prefix = record { name = codes "prefix"; value = shown_text prefix } ∷ []
 
 -- an event has the prefix as its last field
 abbrev pub with_prefix : List ℕ → Call → Call
@@ -53,7 +53,7 @@ calls_of_line mark prefix object streams calls =
 abbrev pub streams_after : Option Mark → List ℕ → Bool → List Call → List Stream → List Stream
 streams_after mark prefix object calls streams =
     if has_streams mark && object
-    then with_span prefix (last_span (span_in prefix streams) calls) streams
+    then with_stream_span prefix (last_span (stream_span prefix streams) calls) streams
     else streams
 
 module _ {S : Type 0} where
@@ -85,7 +85,7 @@ module _ {S : Type 0} where
   -- each event. A line without a prefix means what it means to the source.
   abbrev pub prefixed_takes : (S → List ℕ → Option Json → Option (Step S)) → Marked S → List ℕ
       → Option Json → Option (Step (Marked S))
-  prefixed_takes takes marked line value = by_parts (parts_of marked.mark line value) where
+  prefixed_takes takes marked line value = by_parts (prefix_parts marked.mark line value) where
     by_parts : Option (List ℕ × List ℕ) → Option (Step (Marked S))
     by_parts None =
         option_map (marked_step marked.mark marked.streams) (takes marked.source line value)

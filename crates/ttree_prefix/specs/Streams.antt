@@ -24,10 +24,10 @@ abbrev pub is_of : List ℕ → Stream → Bool
 is_of prefix stream = bytes_eq stream.prefix prefix
 
 -- the span of a stream's last event
-abbrev pub span_in : List ℕ → List Stream → Option Id
-span_in prefix [] = None
-span_in prefix (stream ∷ streams) =
-    if is_of prefix stream then stream.span else span_in prefix streams
+abbrev pub stream_span : List ℕ → List Stream → Option Id
+stream_span prefix [] = None
+stream_span prefix (stream ∷ streams) =
+    if is_of prefix stream then stream.span else stream_span prefix streams
 
 abbrev pub without : List ℕ → List Stream → List Stream
 without prefix streams = by (position (is_of prefix) streams) where
@@ -36,8 +36,8 @@ without prefix streams = by (position (is_of prefix) streams) where
   by (Some place) = remove streams place
 
 -- a stream whose last event was in this span; it comes last
-abbrev pub with_span : List ℕ → Option Id → List Stream → List Stream
-with_span prefix span streams =
+abbrev pub with_stream_span : List ℕ → Option Id → List Stream → List Stream
+with_stream_span prefix span streams =
     without prefix streams ++ record { prefix = prefix; span = span } ∷ []
 
 -- whether the last stream is the one with this prefix
@@ -70,4 +70,4 @@ placed_in span (Close id context) = Close id context
 abbrev pub calls_in : List ℕ → List Stream → List Call → List Call
 calls_in prefix streams calls =
     if has_last prefix streams then calls
-    else map (placed_in (span_in prefix streams)) calls
+    else map (placed_in (stream_span prefix streams)) calls

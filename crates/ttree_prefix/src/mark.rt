@@ -4,7 +4,7 @@ ghost use Rattle.std.specs.Prelude.{◌≡◌, get_or, option_map};
 ghost use Rattle.ttree_source.specs.Traces.{is_digit};
 ghost use Rattle.ttree_prefix.specs.Blank.{after_blank, without_blank};
 ghost use Rattle.ttree_prefix.specs.Streams.{names_stream};
-ghost use Rattle.ttree_prefix.specs.Mark.{after_name, are_names, at_mark, begins_with_digit, begins_with_name, ends_here, is_name, is_of_name, is_prefix, is_second_name, is_stamp, left_after, mark_text, place_after, place_of, separator, separators, split, trimmed, without_bracket};
+ghost use Rattle.ttree_prefix.specs.Mark.{after_name, are_names, at_mark, begins_with_digit, begins_with_name, ends_here, is_name, is_of_name, is_prefix, is_second_name, is_stamp, left_after, mark_text, part_separator, place_after, prefix_end, separators, split, trimmed, without_bracket};
 
 use crate::color::uncolored;
 use ttree_source::marks::after_mark;
@@ -102,7 +102,7 @@ impl Mark {
 
     // Returns the place where a prefix ends.
     fn place_of(self, line: &[u8]) -> Option<usize>
-        ensures { result ≡ place_of self line.now }
+        ensures { result ≡ prefix_end self line.now }
     {
         place_after(
             self.separator(),
@@ -114,7 +114,7 @@ impl Mark {
 
     // Returns what is between the parts of a prefix.
     fn separator(self) -> u8
-        ensures { result ≡ separator self }
+        ensures { result ≡ part_separator self }
     {
         match self {
             Mark::Job => b'\t',

@@ -4,7 +4,7 @@ ghost use Rattle.std.specs.Prelude.{◌≡◌, [], IfOk, OnOk, map, option_map};
 ghost use Rattle.json.specs.Json.{document};
 ghost use Rattle.json.specs.Value.{value_view};
 ghost use Rattle.ttree_source.specs.Source.{Emits};
-ghost use Rattle.ttree_prefix.specs.Prefix.{calls_of_line, has_streams, is_object, parts_of, prefix_field, prefixed_step, streams_after, value_taken, with_prefix};
+ghost use Rattle.ttree_prefix.specs.Prefix.{calls_of_line, has_streams, is_object, prefix_field, prefix_parts, prefixed_step, streams_after, value_taken, with_prefix};
 
 use crate::mark::Mark;
 use crate::streams::Streams;
@@ -204,7 +204,7 @@ fn parts_of<'a>(
     value: Option<&Value<'_>>,
 ) -> Option<(&'a str, &'a str)>
     ensures { option_map (λ parts. (parts.0.now, parts.1.now)) result
-        ≡ parts_of mark line.now (option_map (λ v. value_view v.now) value.entry) }
+        ≡ prefix_parts mark line.now (option_map (λ v. value_view v.now) value.entry) }
 {
     match (mark, value) {
         (Some(mark), None) => mark.split(line),

@@ -1,7 +1,7 @@
 //! The streams of lines: the lines with one prefix are a separate stream.
 
 ghost use Rattle.std.specs.Prelude.{◌≡◌, ◌++◌, ◌∷◌, [], IfOk, OnOk, map, position};
-ghost use Rattle.ttree_prefix.specs.Streams.{calls_in, has_last, is_of, last_span, placed_in, span_in, with_span, without};
+ghost use Rattle.ttree_prefix.specs.Streams.{calls_in, has_last, is_of, last_span, placed_in, stream_span, with_stream_span, without};
 
 use std::alloc::{AllocError, Global};
 use std::marker::Model;
@@ -44,8 +44,8 @@ impl Streams {
 
     // Records the calls of an object with this prefix.
     pub(crate) fn note(&mut self, prefix: &str, calls: &[Call]) -> Result<(), AllocError>
-        ensures { OnOk result (self.new ≡ with_span prefix.now
-            (last_span (span_in prefix.now self.old) calls.now) self.old) }
+        ensures { OnOk result (self.new ≡ with_stream_span prefix.now
+            (last_span (stream_span prefix.now self.old) calls.now) self.old) }
     {
         let span = last_span(span_in(self.all.as_slice(), prefix), calls);
         let prefix = Text::from_str(self.alloc, prefix)?;
@@ -106,7 +106,7 @@ fn is_of(prefix: &str, stream: &Stream) -> bool
 
 // Returns the span of the last event of a prefix.
 fn span_in(streams: &[Stream], prefix: &str) -> Option<Id>
-    ensures { result ≡ span_in prefix.now streams.now }
+    ensures { result ≡ stream_span prefix.now streams.now }
 {
     let mut rest = streams;
     while let [stream, others @ ..] = rest {

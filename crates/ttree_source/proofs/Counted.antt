@@ -8,7 +8,7 @@ use Rattle.tracing_tree_lines.specs.declared.lines.LineCause.{LineCause}
 use Rattle.tracing_tree_lines.specs.declared.lines.LineCause.TheVariants.{Settings as NoSettings, NotACall, Read, Memory, Refused}
 use Rattle.tracing_tree_lines.specs.declared.lines.LineFault.{LineFault}
 use Rattle.ttree_source.specs.Source.{Accepts, Breaks, EndsAt, FlushedTimes, RunsSource, Step, StopsIn, calls_of, interpret, source_after}
-use Rattle.ttree_source.specs.Tallies.{CountsCalls, IsCounted, counted, counted_all, nothing_counted}
+use Rattle.ttree_source.specs.Tallies.{CountsCalls, IsCounted, call_counted, counted_all, nothing_counted}
 use Rattle.ttree_source.specs.declared.run.SourceRun.{SourceRun}
 use Rattle.ttree_source.specs.declared.tally.Tally.{Tally}
 use Rattle.ttree_source.proofs.Interpreted.{beginning}
@@ -23,7 +23,7 @@ flushed_same (suc count) old new (shown, flushed, h) = flushed_same count shown 
 accepts_counts : (calls : List Call) (old new : Tally) → Accepts IsCounted still calls old new → new ≡ counted_all calls old
 accepts_counts [] old new (count, h) = flushed_same count old new h
 accepts_counts (call ∷ calls) old new (count, shown, between, reply, flushed, answered, h) =
-    accepts_counts calls between new h ∙ ap (counted_all calls) (answered.0 ∙ ap (counted call) (flushed_same count old shown flushed))
+    accepts_counts calls between new h ∙ ap (counted_all calls) (answered.0 ∙ ap (call_counted call) (flushed_same count old shown flushed))
 
 breaks_same : (cause : LineCause) (rest : List Call) (old new : Tally) → Breaks IsCounted cause rest old new → new ≡ old
 breaks_same NoSettings rest old new h = h

@@ -8,7 +8,7 @@ use Rattle.std.proofs.Math.Utf8.{encodes}
 use Rattle.std.proofs.lemmas.Bool.{true≢false}
 use Rattle.std.proofs.lemmas.List.Folds.{list_any-append}
 use Rattle.std.proofs.lemmas.Str.{encodes-chars}
-use Rattle.ttree_source.specs.Calls.{is_escaped, is_unprintable, shown, shown_char}
+use Rattle.ttree_source.specs.Calls.{is_escaped, is_unprintable, shown_char, shown_text}
 
 each_as_it_is : (cs : List ℕ) → list_any is_escaped cs ≡ false → flat_map shown_char cs ≡ encodes cs
 each_as_it_is [] none = refl
@@ -20,7 +20,7 @@ each_as_it_is (c ∷ cs) none = by (is_escaped c) refl none (each_as_it_is cs) w
       ap (λ (here : Bool). (if here then codes "\\u{" ++ digits 16 false c ++ codes "}" else encode_utf8 c) ++ flat_map shown_char cs) is
       ∙ ap (λ rest. encode_utf8 c ++ rest) (others none)
 
-pub without_escapes : (text : List ℕ) → IsUtf8 text → list_any is_escaped (chars text) ≡ false → shown text ≡ text
+pub without_escapes : (text : List ℕ) → IsUtf8 text → list_any is_escaped (chars text) ≡ false → shown_text text ≡ text
 without_escapes text utf8 none = each_as_it_is (chars text) none ∙ encodes-chars text utf8
 
 -- ---- printable ASCII

@@ -15,7 +15,7 @@ use Rattle.tracing_tree_lines.specs.declared.lines.LineFault.{LineFault}
 use Rattle.tracing_tree_lines.specs.declared.lines.LineCause.TheVariants.{Settings as NoSettings, NotACall, Read, Memory, Refused}
 use Rattle.ttree_source.specs.Noted.{AddsNotes, Note}
 use Rattle.ttree_source.specs.declared.notes.Problem.{Problem}
-use Rattle.ttree_source.specs.Source.{Accepts, Breaks, IgnoresValues, MakesSome, problem_of, note_of, noted_at, noted_lines, notes_of, source_after, CountsUnknown, EndsAt, Interpreted, InterpretsLine, InterpretsNext, MakesAll, MayEnd, Step, StopsIn, Emits, calls_of, interpret, interpret_line, interpreted_step, next_calls, next_unknown, nothing_interpreted, then_interpreted}
+use Rattle.ttree_source.specs.Source.{Accepts, Breaks, IgnoresValues, MakesSome, problem_of, note_of, noted_at, noted_lines, notes_of, source_after, CountsUnknown, EndsAt, Interpreted, InterpretsLine, InterpretsNext, MakesAll, MayEnd, Step, StopsIn, Emits, InterpretsAs, calls_of, interpret, interpret_line, interpreted_step, next_calls, next_unknown, nothing_interpreted, then_interpreted}
 use Rattle.ttree_source.specs.declared.run.SourceRun.{SourceRun}
 use Rattle.ttree_source.specs.declared.run.Judged.TheVariants.{End}
 use Rattle.ttree_source.proofs.Ended.{IsOfNotes}
@@ -30,11 +30,6 @@ no_text line bad = elim (is_utf8 line) as (λ b. is_utf8 line ≡ b → b ≡ fa
 ] refl
 
 module _ {S : Type 0} (takes : S → List ℕ → Option Json → Option (Step S)) where
-  -- a source that ignores values returns the same without one
-  pub emits_anyway : (source new : S) (line : List ℕ) (value : Option Json) (emitted : Option (List Call)) → IgnoresValues takes source →
-      Emits (takes source line None) source new emitted → Emits (takes source line value) source new emitted
-  emits_anyway source new line value emitted ignores h = subst (λ step. Emits step source new emitted) (sym (ignores line value)) h
-
   -- ---- lines after lines
 
   then_nothing : (h : Interpreted S) (source : S) → h ≡ then_interpreted (nothing_interpreted source) h
@@ -98,37 +93,47 @@ module _ {C : Type 0} (answers : Call → Result Reply Refusal → C → C → T
   module _ {S : Type 0} (takes : S → List ℕ → Option Json → Option (Step S)) where
     -- ---- one line
 
-    abbrev interpreted_as : Interpreted S → S → Result Bool LineCause → C → C → Type 0
-    interpreted_as interpreted after (Ok known) old new =
-        Made interpreted.calls old new × (after ≡ interpreted.source) × (interpreted.unknown ≡ (if known then 0 else 1))
-    interpreted_as interpreted after (Err cause) old new = StopsIn Made answers interpreted.calls cause old new
-
     -- a line that isn't UTF-8
     pub interprets_no_text : (line : List ℕ) (source : S) (s : C) → ¬ (IsUtf8 line) → InterpretsLine Made answers takes line source source (Ok false) s s
     interprets_no_text line source s bad =
         rw (no_text line bad) (accepts_none answers flushes s, refl, refl)
 
-    emits_calls : (emitted : Option (Step S)) (before after : S) (calls : List Call) (result : Result ⊤ LineCause) (old new : C) →
-        Emits emitted before after (Some calls) → MakesAll Made answers calls result old new →
-        interpreted_as (interpreted_step before emitted) after (elim result as (λ _. Result Bool LineCause) [ Ok done ↦ Ok true | Err cause ↦ Err cause ]) old new
-    emits_calls None before after calls result old new h k = absurd h
-    emits_calls (Some step) before after calls (Ok done) old new h k =
-        let P : List Call → Type 0 = λ c. Made c old new in
-        (subst P h.0 k, h.1, refl)
-    emits_calls (Some step) before after calls (Err cause) old new h k =
-        let P : List Call → Type 0 = λ c. StopsIn Made answers c cause old new in
-        subst P h.0 k
+    -- a line that is UTF-8 does what its text and its value mean
+    pub interprets_text : (line : List ℕ) (before after : S) (result : Result Bool LineCause) (old new : C) → IsUtf8 line →
+        InterpretsAs Made answers (interpreted_step before (takes before line (document line))) after result old new → InterpretsLine Made answers takes line before after result old new
+    interprets_text line before after result old new text h = rw (is_utf8-from_IsUtf8 line text) h
 
-    pub interprets_calls : (line : List ℕ) (before after : S) (calls : List Call) (old new : C) → IsUtf8 line →
-        Emits (takes before line (document line)) before after (Some calls) → Made calls old new → InterpretsLine Made answers takes line before after (Ok true) old new
-    interprets_calls line before after calls old new text h k =
-        rw (is_utf8-from_IsUtf8 line text) (emits_calls (takes before line (document line)) before after calls (Ok tt) old new h k)
+    -- a source that ignores values does the same without one
+    pub interprets_anyway : (line : List ℕ) (value : Option Json) (before after : S) (result : Result Bool LineCause) (old new : C) → IgnoresValues takes before →
+        InterpretsAs Made answers (interpreted_step before (takes before line None)) after result old new → InterpretsAs Made answers (interpreted_step before (takes before line value)) after result old new
+    interprets_anyway line value before after result old new ignores h =
+        subst (λ step. InterpretsAs Made answers (interpreted_step before step) after result old new) (sym (ignores line value)) h
 
-    pub interprets_stop : (line : List ℕ) (before after : S) (calls : List Call) (cause : LineCause) (old new : C) → IsUtf8 line →
-        Emits (takes before line (document line)) before after (Some calls) → StopsIn Made answers calls cause old new → InterpretsLine Made answers takes line before after (Err cause) old new
-    interprets_stop line before after calls cause old new text h k =
-        rw (is_utf8-from_IsUtf8 line text) (emits_calls (takes before line (document line)) before after calls (Err cause) old new h k)
+  -- memory ran out before anything was made
+  pub interprets_lacking : {S : Type 0} (interpreted : Interpreted S) (after : S) (s : C) → InterpretsAs Made answers interpreted after (Err Memory) s s
+  interprets_lacking interpreted after s = stops_before answers flushes interpreted.calls Memory s refl
 
+  -- an unknown line
+  pub emits_nothing : {S : Type 0} (taken : Option (Step S)) (before after : S) (s : C) → Emits taken before after None → InterpretsAs Made answers (interpreted_step before taken) after (Ok false) s s
+  emits_nothing None before after s h = (accepts_none answers flushes s, h, refl)
+  emits_nothing (Some step) before after s h = absurd h
+
+  -- the calls of a known line, made one after another
+  pub emits_calls : {S : Type 0} (taken : Option (Step S)) (before after : S) (calls : List Call) (old new : C) →
+      Emits taken before after (Some calls) → Made calls old new → InterpretsAs Made answers (interpreted_step before taken) after (Ok true) old new
+  emits_calls None before after calls old new h k = absurd h
+  emits_calls (Some step) before after calls old new h k =
+      let P : List Call → Type 0 = λ c. Made c old new in
+      (subst P h.0 k, h.1, refl)
+
+  pub emits_stop : {S : Type 0} (taken : Option (Step S)) (before after : S) (calls : List Call) (cause : LineCause) (old new : C) →
+      Emits taken before after (Some calls) → StopsIn Made answers calls cause old new → InterpretsAs Made answers (interpreted_step before taken) after (Err cause) old new
+  emits_stop None before after calls cause old new h k = absurd h
+  emits_stop (Some step) before after calls cause old new h k =
+      let P : List Call → Type 0 = λ c. StopsIn Made answers c cause old new in
+      subst P h.0 k
+
+  module _ {S : Type 0} (takes : S → List ℕ → Option Json → Option (Step S)) where
     -- ---- the next line, or the end
 
     module _ (ends : S → List Call) (ended : S → S) where

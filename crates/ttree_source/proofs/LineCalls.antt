@@ -1,5 +1,5 @@
 -- A line encodes a call exactly if it spells that call.
-use Rattle.std.specs.Prelude.{Bool, IsUtf8, ℤ, pos, List, [], codes, Ok}
+use Rattle.std.specs.Prelude.{Bool, IfErr, IsUtf8, ℤ, pos, List, [], ◌∷◌, codes, Result, Ok, Err}
 use Rattle.std.specs.Ordering.{int_eq}
 use Rattle.std.proofs.Common.{◌≡◌, ℕ, true, false, if◌then◌else◌, Option, Some, None, refl, sym, ap, subst, ◌∙◌}
 use Rattle.std.proofs.lemmas.Bool.Decides.{Decides-int_eq}
@@ -10,13 +10,18 @@ use Rattle.serde_json.specs.Data.{Data}
 use Rattle.serde_json.specs.Read.{read}
 use Rattle.serde_json.specs.Written.{has_float}
 use Rattle.tracing_tree_base.specs.declared.context.Moment.{Moment}
+use Rattle.tracing_tree_base.specs.declared.context.Refusal.{Refusal}
 use Rattle.tracing_tree_layer.specs.declared.call.Call.{Call}
 use Rattle.tracing_tree_layer.specs.declared.call.Reply.{Reply}
 use Rattle.tracing_tree_lines.specs.Lines.Spelled.{IsMomentIn, SpellsCall, is_skipped, object_call, read_or, signed_value, whole_value}
-use Rattle.tracing_tree_lines.specs.Lines.Steps.{Answers}
-use Rattle.ttree_source.specs.CallLines.{call_lines_takes, instant_of, line_call, moment_in, value_call}
+use Rattle.tracing_tree_lines.specs.Lines.Steps.{Answers, MakesSpelled}
+use Rattle.tracing_tree_lines.specs.declared.lines.LineCause.{LineCause}
+use Rattle.tracing_tree_lines.specs.declared.lines.LineCause.TheVariants.{Settings as NoSettings, NotACall, Read, Memory, Refused}
+use Rattle.ttree_source.specs.CallLines.{call_lines_takes, instant_of, is_known, line_call, moment_in, value_call}
 use Rattle.ttree_source.specs.Moments.{instant_at, into_range}
 use Rattle.ttree_source.specs.Recorder.{IsRecorded}
+use Rattle.ttree_source.specs.Source.{Accepts, InterpretsAs, MayEnd, interpreted_step}
+use Rattle.ttree_source.proofs.Accepted.{accepts_none, accepts_one, stops_before}
 use Rattle.ttree_source.proofs.Instants.{in_place, same_instant}
 
 instant_is : (wall : Timestamp) → instant_of wall.nanosecond ≡ Some wall
@@ -93,3 +98,50 @@ takes_made s line value reply calls judged made = rw (judged, call_is line made.
 pub takes_none : (s : Unit {0}) (line : List ℕ) (value : Option Json) → IsUtf8 line → is_skipped line ≡ false → ((call : Call) → ¬ SpellsCall line call)
     → call_lines_takes s line value ≡ None
 takes_none s line value text judged none = rw (judged, no_call line text none) refl
+
+module _ {C : Type 0} (answers : Call → Result Reply Refusal → C → C → Type 0) (flushes : C → C → Type 0) where
+  -- what a line did to the receiver
+  abbrev Did : Unit {0} → List ℕ → Option Json → Unit {0} → Result Bool LineCause → C → C → Type 0
+  Did before line value after result old new =
+      InterpretsAs (Accepts answers flushes) answers (interpreted_step before (call_lines_takes before line value)) after result old new
+
+  takes_one : (s : Unit {0}) (line : List ℕ) (value : Option Json) (call : Call) → is_skipped line ≡ false → SpellsCall line call
+      → call_lines_takes s line value ≡ Some (record { calls = call ∷ []; source = s })
+  takes_one s line value call judged spelled = rw (judged, call_is line call spelled) refl
+
+  -- a blank line makes no call
+  pub blank_makes_none : (s : Unit {0}) (line : List ℕ) (value : Option Json) (at : C) → is_skipped line ≡ true → Did s line value s (Ok true) at at
+  blank_makes_none s line value at blank = rw blank (accepts_none answers flushes at, refl, refl)
+
+  -- what came of making a line's call is what the line did
+  pub line_does : (s : Unit {0}) (line : List ℕ) (value : Option Json) (made : Result Reply LineCause) (old new : C) → IsUtf8 line → is_skipped line ≡ false
+      → MakesSpelled answers (SpellsCall line) made old new → Did s line value s (is_known made) old new
+  line_does s line value (Ok reply) old new text judged made =
+      rw (takes_one s line value made.call judged made.spelled) (accepts_one answers flushes made.call reply old new made.answered, refl, refl)
+  line_does s line value (Err NoSettings) old new text judged made = absurd made
+  line_does s line value (Err NotACall) old new text judged made =
+      let at_old : Did s line value s (Ok false) old old = rw (takes_none s line value text judged made.0) (accepts_none answers flushes old, refl, refl) in
+      subst (Did s line value s (Ok false) old) (sym made.1) at_old
+  line_does s line value (Err Read) old new text judged made = absurd made
+  line_does s line value (Err Memory) old new text judged made =
+      subst (Did s line value s (Err Memory) old) (sym made)
+      (stops_before answers flushes (interpreted_step s (call_lines_takes s line value)).calls Memory old refl)
+  line_does s line value (Err (Refused refusal)) old new text judged made =
+      rw (takes_one s line value made.call judged made.spelled) (record {
+        made = [];
+        rest = made.call ∷ [];
+        split = refl;
+        between = old;
+        makes = accepts_none answers flushes old;
+        breaks = made.answered;
+      })
+
+  -- what ends a run at a line may do so
+  pub line_may_end : (line : List ℕ) (made : Result Reply LineCause) (old new : C) → MakesSpelled answers (SpellsCall line) made old new
+      → IfErr (is_known made) (λ cause. MayEnd cause 0)
+  line_may_end line (Ok reply) old new made = tt
+  line_may_end line (Err NoSettings) old new made = absurd made
+  line_may_end line (Err NotACall) old new made = tt
+  line_may_end line (Err Read) old new made = absurd made
+  line_may_end line (Err Memory) old new made = tt
+  line_may_end line (Err (Refused refusal)) old new made = tt

@@ -1,5 +1,5 @@
 -- Lines of calls.
-use Rattle.std.specs.Prelude.{ℕ, ℤ, pos, ◌&&◌, if◌then◌else◌, not, List, [], ◌∷◌, Option, Some, None, is_none, option_map, bytes_eq, codes}
+use Rattle.std.specs.Prelude.{ℕ, ℤ, pos, Bool, true, false, ◌&&◌, if◌then◌else◌, not, List, [], ◌∷◌, Option, Some, None, Result, Ok, Err, is_none, option_map, bytes_eq, codes}
 use Rattle.std.specs.List.{list_any}
 use Rattle.std.specs.Ordering.{int_eq}
 use Rattle.json.specs.Json.{Json}
@@ -9,6 +9,9 @@ use Rattle.serde_json.specs.Read.{read}
 use Rattle.serde_json.specs.Written.{has_float}
 use Rattle.tracing_tree_base.specs.declared.context.Moment.{Moment}
 use Rattle.tracing_tree_layer.specs.declared.call.Call.{Call}
+use Rattle.tracing_tree_layer.specs.declared.call.Reply.{Reply}
+use Rattle.tracing_tree_lines.specs.declared.lines.LineCause.{LineCause}
+use Rattle.tracing_tree_lines.specs.declared.lines.LineCause.TheVariants.{Settings as NoSettings, NotACall, Read, Memory, Refused}
 use Rattle.tracing_tree_lines.specs.Lines.Spelled.{◌>>=◌, is_skipped, object_call, read_or, signed_value, whole_value}
 use Rattle.ttree_source.specs.First.{call_words}
 use Rattle.ttree_source.specs.Levels.{level_in}
@@ -53,6 +56,15 @@ call_lines_ends s = []
 
 abbrev pub call_lines_ended : Unit {0} → Unit {0}
 call_lines_ended s = s
+
+-- whether a line is known, by what came of making its call
+abbrev pub is_known : Result Reply LineCause → Result Bool LineCause
+is_known (Ok reply) = Ok true
+is_known (Err NoSettings) = Err NoSettings
+is_known (Err NotACall) = Ok false
+is_known (Err Read) = Err Read
+is_known (Err Memory) = Err Memory
+is_known (Err (Refused refusal)) = Err (Refused refusal)
 
 -- what an object lacks that has this name of a call
 abbrev pub problem_of_named : List ℕ → Json → Problem

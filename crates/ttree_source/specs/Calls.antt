@@ -34,16 +34,16 @@ shown_char c =
     if is_escaped c then codes "\\u{" ++ digits 16 false c ++ codes "}" else encode_utf8 c
 
 -- A string in the form that is drawn.
-abbrev pub shown : List ℕ → List ℕ
-shown text = flat_map shown_char (chars text)
+abbrev pub shown_text : List ℕ → List ℕ
+shown_text text = flat_map shown_char (chars text)
 
 abbrev pub span_call : Moment → List ℕ → List Field → Option Id → Call
 span_call moment name fields parent =
-    New (record { name = shown name; target = []; parent = Current; fields = fields })
+    New (record { name = shown_text name; target = []; parent = Current; fields = fields })
     (context_at moment parent)
 
 abbrev pub message_field : List ℕ → Field
-message_field text = record { name = codes "message"; value = shown text }
+message_field text = record { name = codes "message"; value = shown_text text }
 
 abbrev pub event_call : Moment → Level → List Field → Option Id → Call
 event_call moment level fields parent =

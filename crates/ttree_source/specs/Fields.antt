@@ -5,22 +5,22 @@ use Rattle.json.specs.Json.{Json, null, boolean, number, string, array, object, 
 use Rattle.json.specs.Find.{as_object}
 use Rattle.tracing_tree_base.specs.declared.field.Field.{Field}
 use Rattle.ttree_source.specs.JsonText.{json_text}
-use Rattle.ttree_source.specs.Calls.{shown}
+use Rattle.ttree_source.specs.Calls.{shown_text}
 
 -- a value in its drawn form: an array and an object as compact JSON
-abbrev pub text_of : Json → List ℕ
-text_of null = codes "null"
-text_of (boolean b) = if b then codes "true" else codes "false"
-text_of (number text) = text
-text_of (string text) = shown text
-text_of (array items) = shown (json_text (array items))
-text_of (object members) = shown (json_text (object members))
+abbrev pub value_text : Json → List ℕ
+value_text null = codes "null"
+value_text (boolean b) = if b then codes "true" else codes "false"
+value_text (number text) = text
+value_text (string text) = shown_text text
+value_text (array items) = shown_text (json_text (array items))
+value_text (object members) = shown_text (json_text (object members))
 
 -- a member as a field, unless it has one of these keys
 abbrev pub member_fields : List (List ℕ) → List ℕ → Json → List Field
 member_fields keys key value =
     if list_any (bytes_eq key) keys then []
-    else (record { name = shown key; value = text_of value }) ∷ []
+    else (record { name = shown_text key; value = value_text value }) ∷ []
 
 abbrev pub members_fields : List (List ℕ) → Members → List Field
 members_fields keys no_members = []
@@ -32,5 +32,5 @@ abbrev pub fields_besides : List (List ℕ) → Json → List Field
 fields_besides keys value = members_fields keys (unwrap_or (as_object value) no_members)
 
 -- an object's members as the fields of an event
-abbrev pub event_fields : Json → List Field
-event_fields value = fields_besides [] value
+abbrev pub object_fields : Json → List Field
+object_fields value = fields_besides [] value

@@ -16,8 +16,8 @@ quoted_char c =
 abbrev pub quoted_chars : List ℕ → List ℕ
 quoted_chars text = flat_map quoted_char (chars text)
 
-abbrev pub quoted : List ℕ → List ℕ
-quoted text = codes "\"" ++ quoted_chars text ++ codes "\""
+abbrev pub json_quoted : List ℕ → List ℕ
+json_quoted text = codes "\"" ++ quoted_chars text ++ codes "\""
 
 -- a comma before all but the first
 abbrev pub separator : Bool → List ℕ
@@ -28,7 +28,7 @@ abbrev mutual
   json_text null = codes "null"
   json_text (boolean b) = if b then codes "true" else codes "false"
   json_text (number text) = text
-  json_text (string text) = quoted text
+  json_text (string text) = json_quoted text
   json_text (array items) = codes "[" ++ items_text true items ++ codes "]"
   json_text (object members) = codes "{" ++ members_text true members ++ codes "}"
 
@@ -41,4 +41,5 @@ abbrev mutual
   pub members_text : Bool → Members → List ℕ
   members_text first no_members = []
   members_text first (member key value others) =
-      separator first ++ quoted key ++ codes ":" ++ json_text value ++ members_text false others
+      separator first ++ json_quoted key ++ codes ":" ++ json_text value
+      ++ members_text false others

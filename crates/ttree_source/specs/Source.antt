@@ -173,6 +173,15 @@ module _ {C : Type 0} (accepts : List Call → C → C → Type 0)
   MakesSome None old new = (calls : List Call) × accepts calls old new
   MakesSome (Some cause) old new = (calls : List Call) × StopsIn calls cause old new
 
+  -- what a line did that means this; if it is known, the source continues as it says
+  abbrev pub InterpretsAs : {S : Type 0} → Interpreted S → S → Result Bool LineCause → C → C
+      → Type 0
+  InterpretsAs interpreted after (Ok known) old new =
+      accepts interpreted.calls old new × (after ≡ interpreted.source)
+      × (interpreted.unknown ≡ (if known then 0 else 1))
+  InterpretsAs interpreted after (Err cause) old new =
+      StopsIn interpreted.calls cause old new
+
 -- what an unknown line lacks
 abbrev pub problem_of : (Option Json → Problem) → List ℕ → Problem
 problem_of value_problem line = if is_utf8 line then value_problem (document line) else Utf8
@@ -216,14 +225,10 @@ module _ {S : Type 0} (takes : S → List ℕ → Option Json → Option (Step S
 module _ {C : Type 0} (accepts : List Call → C → C → Type 0)
     (answers : Call → Result Reply Refusal → C → C → Type 0) {S : Type 0}
     (takes : S → List ℕ → Option Json → Option (Step S)) where
-  -- what one line did; if it is known, the source continues as it says
+  -- what one line did
   abbrev pub InterpretsLine : List ℕ → S → S → Result Bool LineCause → C → C → Type 0
-  InterpretsLine line before after (Ok known) old new =
-      let interpreted = interpret_line takes before line in
-      accepts interpreted.calls old new × (after ≡ interpreted.source)
-      × (interpreted.unknown ≡ (if known then 0 else 1))
-  InterpretsLine line before after (Err cause) old new =
-      StopsIn accepts answers (interpret_line takes before line).calls cause old new
+  InterpretsLine line before after result old new =
+      InterpretsAs accepts answers (interpret_line takes before line) after result old new
 
   -- What the next line did, or the end. If it ended the run, these were its calls.
   abbrev pub InterpretsNext : (S → List Call) → (S → S) → Option (List ℕ) → Option (List ℕ) → List ℕ → S

@@ -14,16 +14,16 @@ abbrev pub nothing_counted : Tally
 nothing_counted = record { spans = 0; clones = 0; records = 0; events = 0; closes = 0 }
 
 -- one call more, by its kind
-abbrev pub counted : Call → Tally → Tally
-counted (New attributes context) tally = record tally { spans = tally.spans + 1 }
-counted (Clone id) tally = record tally { clones = tally.clones + 1 }
-counted (Record id values) tally = record tally { records = tally.records + 1 }
-counted (Event event context) tally = record tally { events = tally.events + 1 }
-counted (Close id context) tally = record tally { closes = tally.closes + 1 }
+abbrev pub call_counted : Call → Tally → Tally
+call_counted (New attributes context) tally = record tally { spans = tally.spans + 1 }
+call_counted (Clone id) tally = record tally { clones = tally.clones + 1 }
+call_counted (Record id values) tally = record tally { records = tally.records + 1 }
+call_counted (Event event context) tally = record tally { events = tally.events + 1 }
+call_counted (Close id context) tally = record tally { closes = tally.closes + 1 }
 
 abbrev pub counted_all : List Call → Tally → Tally
 counted_all [] tally = tally
-counted_all (call ∷ calls) tally = counted_all calls (counted call tally)
+counted_all (call ∷ calls) tally = counted_all calls (call_counted call tally)
 
 -- the reply to a call that is counted: spans get the ids 1, 2 and so on, and each close removes one
 abbrev pub tally_reply : Call → Tally → Reply
@@ -35,7 +35,7 @@ tally_reply (Close id context) tally = Closed true
 
 -- an accepted call is counted, and a refused one isn't
 abbrev pub IsCounted : Call → Result Reply Refusal → Tally → Tally → Type 0
-IsCounted call (Ok reply) old new = (new ≡ counted call old) × (reply ≡ tally_reply call old)
+IsCounted call (Ok reply) old new = (new ≡ call_counted call old) × (reply ≡ tally_reply call old)
 IsCounted call (Err refusal) old new = (new ≡ old) × (refusal ≡ TooMany)
 
 -- all of these calls were counted, or a first part if something ended the run

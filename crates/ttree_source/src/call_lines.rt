@@ -2,7 +2,7 @@
 
 ghost use Rattle.std.specs.Prelude.{◌≡◌};
 ghost use Rattle.json.specs.Value.{value_view};
-ghost use Rattle.ttree_source.specs.CallLines.{problem_of_call, problem_of_named};
+ghost use Rattle.ttree_source.specs.CallLines.{is_known, problem_of_call, problem_of_named};
 
 use crate::fields::is_among;
 use crate::first::CALL_WORDS;
@@ -14,7 +14,8 @@ use crate::values::text_at;
 use json::{Scratch, Value};
 use std::alloc::{AllocError, Global};
 use std::marker::Model;
-use tracing_tree_layer::call::Call;
+use tracing_tree_layer::call::{Call, Reply};
+use tracing_tree_layer::calls::Calls;
 use tracing_tree_lines::lines::{LineCause, is_skipped, make_call};
 
 /// Lines of calls, as they follow the settings in the input of [`run_lines`]. A blank line has no
@@ -73,6 +74,21 @@ impl Source for CallLines {
         }
     }
 
+    // The call of a line is made from its parts.
+    #[tactic(auto, using(crate::proofs::LineCalls::blank_makes_none, crate::proofs::LineCalls::line_does, crate::proofs::LineCalls::line_may_end))]
+    fn make_calls<C: Calls>(
+        &mut self,
+        alloc: Global,
+        line: &str,
+        _value: Option<&Value<'_>>,
+        receiver: &mut C,
+    ) -> Result<bool, LineCause> {
+        if is_skipped(line.as_bytes()) {
+            return Ok(true);
+        }
+        is_known(make_call(alloc, line, &mut self.scratch, receiver))
+    }
+
     fn problem(value: Option<&Value<'_>>) -> Problem {
         match value {
             Some(value) => problem_of_call(value),
@@ -82,6 +98,17 @@ impl Source for CallLines {
 
     fn end(&mut self, alloc: Global) -> Result<Vec<Call>, AllocError> {
         Ok(Vec::new(alloc))
+    }
+}
+
+// Returns whether a line is known, given what came of making its call.
+fn is_known(made: Result<Reply, LineCause>) -> Result<bool, LineCause>
+    ensures { result ≡ is_known made }
+{
+    match made {
+        Ok(_) => Ok(true),
+        Err(LineCause::NotACall) => Ok(false),
+        Err(cause) => Err(cause),
     }
 }
 

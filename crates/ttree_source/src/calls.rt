@@ -3,7 +3,7 @@
 ghost use Rattle.std.specs.Prelude.{◌≡◌, ◌++◌, IfOk, OnOk, [], ◌∷◌, map, string_bytes};
 ghost use Rattle.std.specs.List.{list_any};
 ghost use Rattle.std.specs.Str.{chars};
-ghost use Rattle.ttree_source.specs.Calls.{all_on_thread, close_call, context_at, event_call, is_escaped, is_unprintable, message_field, on_thread, record_call, shown, shown_char, span_call};
+ghost use Rattle.ttree_source.specs.Calls.{all_on_thread, close_call, context_at, event_call, is_escaped, is_unprintable, message_field, on_thread, record_call, shown_char, shown_text, span_call};
 
 use std::alloc::{AllocError, Global};
 use tracing_tree_base::field::{Field, Fields};
@@ -58,7 +58,7 @@ fn push_shown(out: &mut String, c: char) -> Result<(), AllocError>
 /// `AllocError` if an allocation fails.
 #[tactic(auto, using(crate::proofs::Escapes::without_escapes))]
 pub fn shown(alloc: Global, text: &str) -> Result<Text, AllocError>
-    ensures { IfOk result (λ made. made ≡ shown text.now) }
+    ensures { IfOk result (λ made. made ≡ shown_text text.now) }
 {
     if has_escaped(text) {
         with_escapes(alloc, text)
@@ -99,7 +99,7 @@ fn has_escaped(text: &str) -> bool
 }
 
 fn with_escapes(alloc: Global, text: &str) -> Result<Text, AllocError>
-    ensures { IfOk result (λ made. made ≡ shown text.now) }
+    ensures { IfOk result (λ made. made ≡ shown_text text.now) }
 {
     let mut out = String::new(alloc);
     for c in text.chars() {

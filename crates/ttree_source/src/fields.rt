@@ -3,7 +3,7 @@
 ghost use Rattle.std.specs.Prelude.{◌≡◌, ◌++◌, IfOk, OnOk, bytes_eq, map};
 ghost use Rattle.std.specs.List.{list_any};
 ghost use Rattle.json.specs.Value.{members_view, value_view};
-ghost use Rattle.ttree_source.specs.Fields.{event_fields, fields_besides, member_fields, members_fields, text_of};
+ghost use Rattle.ttree_source.specs.Fields.{fields_besides, member_fields, members_fields, object_fields, value_text};
 
 use crate::calls::shown;
 use crate::json_text::json_text;
@@ -19,7 +19,7 @@ use tracing_tree_base::text::Text;
 ///
 /// `AllocError` if an allocation fails.
 pub fn event_fields(alloc: Global, value: &Value<'_>) -> Result<Fields, AllocError>
-    ensures { IfOk result (λ fields. fields ≡ event_fields (value_view value.now)) }
+    ensures { IfOk result (λ fields. fields ≡ object_fields (value_view value.now)) }
 {
     fields_besides(alloc, &[], value)
 }
@@ -94,7 +94,7 @@ pub(crate) fn is_among(text: &str, keys: &[&str]) -> bool
 ///
 /// `AllocError` if an allocation fails.
 pub fn text_of(alloc: Global, value: &Value<'_>) -> Result<Text, AllocError>
-    ensures { IfOk result (λ text. text ≡ text_of (value_view value.now)) }
+    ensures { IfOk result (λ text. text ≡ value_text (value_view value.now)) }
 {
     match value {
         Value::String(text) => shown(alloc, text),

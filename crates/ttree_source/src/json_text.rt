@@ -2,7 +2,7 @@
 
 ghost use Rattle.std.specs.Prelude.{◌≡◌, ◌++◌, true, IfOk, OnOk, codes, string_bytes};
 ghost use Rattle.json.specs.Value.{items_view, members_view, value_view};
-ghost use Rattle.ttree_source.specs.JsonText.{items_text, json_text, members_text, quoted, quoted_char, quoted_chars, separator};
+ghost use Rattle.ttree_source.specs.JsonText.{items_text, json_quoted, json_text, members_text, quoted_char, quoted_chars, separator};
 
 use json::Value;
 use std::alloc::{AllocError, Global};
@@ -81,7 +81,7 @@ fn push_separator(out: &mut String, is_first: bool) -> Result<(), AllocError>
 
 fn push_key(out: &mut String, is_first: bool, key: &str) -> Result<(), AllocError>
     ensures { OnOk result (string_bytes out.new
-        ≡ string_bytes out.old ++ separator is_first ++ quoted key.now ++ codes ":") }
+        ≡ string_bytes out.old ++ separator is_first ++ json_quoted key.now ++ codes ":") }
 {
     push_separator(out, is_first)?;
     push_quoted(out, key)?;
@@ -89,7 +89,7 @@ fn push_key(out: &mut String, is_first: bool, key: &str) -> Result<(), AllocErro
 }
 
 fn push_quoted(out: &mut String, text: &str) -> Result<(), AllocError>
-    ensures { OnOk result (string_bytes out.new ≡ string_bytes out.old ++ quoted text.now) }
+    ensures { OnOk result (string_bytes out.new ≡ string_bytes out.old ++ json_quoted text.now) }
 {
     out.push_str("\"")?;
     push_quoted_chars(out, text)?;

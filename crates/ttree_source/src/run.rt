@@ -5,7 +5,7 @@ ghost use Rattle.json.specs.Json.{document};
 ghost use Rattle.json.specs.Value.{value_view};
 ghost use Rattle.tracing_tree_layer.specs.Layer.Layers.{seen, Changes};
 ghost use Rattle.tracing_tree_layer.specs.Layered.Answered.{IsAnswered};
-ghost use Rattle.ttree_source.specs.Source.{Accepts, InterpretsLine, InterpretsNext, Makes, MakesAll, MakesEach, RunsSource, MayEnd, Emits, is_quiet, problem_of, noted_lines, notes_of};
+ghost use Rattle.ttree_source.specs.Source.{Accepts, InterpretsAs, InterpretsLine, InterpretsNext, Makes, MakesAll, MakesEach, RunsSource, MayEnd, interpreted_step, is_quiet, problem_of, noted_lines, notes_of};
 ghost use Rattle.ttree_source.specs.Noted.{AddsNotes, note_if};
 ghost use Rattle.tracing_tree_lines.specs.Lines.Reads.{ReadsNext, is_from_outside};
 ghost use Rattle.tracing_tree_lines.specs.Lines.Spelled.{input_lines};
@@ -246,34 +246,30 @@ fn run_line<S: Source, C: Calls>(
     let Ok(text) = from_utf8(line) else {
         return Ok(false);
     };
-    let Ok(emitted) = interpret(alloc, source, text, scratch) else {
-        return Err(LineCause::Memory);
-    };
-    match emitted {
-        Some(calls) => match make(calls, receiver) {
-            Ok(()) => Ok(true),
-            Err(refusal) => Err(LineCause::Refused(refusal)),
-        },
-        None => Ok(false),
-    }
+    run_text(alloc, source, text, scratch, receiver)
 }
 
-// Returns the calls of a line. It is parsed only if the source reads its value.
-#[tactic(auto, using(crate::proofs::Interpreted::emits_anyway))]
-fn interpret<S: Source>(
+// Makes the calls of a line. It is parsed only if the source reads its value.
+#[tactic(auto, using(crate::proofs::Interpreted::interprets_anyway, crate::proofs::Interpreted::interprets_lacking))]
+fn run_text<S: Source, C: Calls>(
     alloc: Global,
     source: &mut S,
     text: &str,
     scratch: &mut Scratch,
-) -> Result<Option<Vec<Call>>, AllocError>
-    ensures { IfOk result (λ emitted. Emits (S.takes source.old text.now (document text.now))
-        source.old source.new (option_map (λ calls. calls.items) emitted)) }
+    receiver: &mut C,
+) -> Result<bool, LineCause>
+    ensures text { InterpretsAs (Accepts C.answers C.flushes) C.answers
+        (interpreted_step source.old (S.takes source.old text.now (document text.now)))
+        source.new result receiver.old receiver.new }
+    ensures cause { IfErr result (λ cause. MayEnd cause 0) }
 {
     if !source.reads_values() {
-        return source.take(alloc, text, None);
+        return source.make_calls(alloc, text, None, receiver);
     }
-    let value = value_of(alloc, text, scratch)?;
-    source.take(alloc, text, value.as_ref())
+    let Ok(value) = value_of(alloc, text, scratch) else {
+        return Err(LineCause::Memory);
+    };
+    source.make_calls(alloc, text, value.as_ref(), receiver)
 }
 
 // Makes the calls of the input's end.

@@ -1,16 +1,19 @@
 //! The meaning of another tool's lines.
 
-ghost use Rattle.std.specs.Prelude.{◌≡◌, List, ℕ, Option, IfOk, OnOk, false, option_map};
+ghost use Rattle.std.specs.Prelude.{◌≡◌, List, ℕ, Option, IfErr, IfOk, OnOk, false, option_map};
 ghost use Rattle.json.specs.Json.{Json};
 ghost use Rattle.json.specs.Value.{value_view};
-ghost use Rattle.ttree_source.specs.Source.{IgnoresValues, Step, Emits};
+ghost use Rattle.ttree_source.specs.Source.{Accepts, Emits, IgnoresValues, InterpretsAs, MayEnd, Step, interpreted_step};
 ghost use Rattle.tracing_tree_layer.specs.declared.call.Call.{Call};
 ghost use Rattle.ttree_source.specs.declared.notes.Problem.{Problem};
 
 use crate::notes::Problem;
+use crate::run::make;
 use json::Value;
 use std::alloc::{AllocError, Global};
 use tracing_tree_layer::call::Call;
+use tracing_tree_layer::calls::Calls;
+use tracing_tree_lines::lines::LineCause;
 
 /// A tool's output, line by line. A source stores what it needs from earlier lines.
 pub trait Source {
@@ -50,6 +53,37 @@ pub trait Source {
         ensures { IfOk result (λ emitted. Emits
             (takes self.old line.now (option_map (λ v. value_view v.now) value.entry))
             self.old self.new (option_map (λ calls. calls.items) emitted)) };
+
+    /// Takes a line as `take` does, and makes its calls on a receiver. Returns whether the line is
+    /// known. A source that has the calls in parts makes them without a list.
+    ///
+    /// # Errors
+    ///
+    /// `Memory` if an allocation fails, and `Refused` if a call is refused. Only the calls before
+    /// it were made, and the state of the source is then unspecified.
+    #[tactic(auto, using(crate::proofs::Interpreted::emits_nothing, crate::proofs::Interpreted::emits_calls, crate::proofs::Interpreted::emits_stop, crate::proofs::Interpreted::interprets_lacking))]
+    fn make_calls<C: Calls>(
+        &mut self,
+        alloc: Global,
+        line: &str,
+        value: Option<&Value<'_>>,
+        receiver: &mut C,
+    ) -> Result<bool, LineCause>
+        ensures line { InterpretsAs (Accepts C.answers C.flushes) C.answers
+            (interpreted_step self.old
+            (takes self.old line.now (option_map (λ v. value_view v.now) value.entry)))
+            self.new result receiver.old receiver.new }
+        ensures cause { IfErr result (λ cause. MayEnd cause 0) }
+    {
+        let Ok(taken) = self.take(alloc, line, value) else {
+            return Err(LineCause::Memory);
+        };
+        let Some(calls) = taken else {
+            return Ok(false);
+        };
+        make(calls, receiver)?;
+        Ok(true)
+    }
 
     /// Returns what is missing in an unknown line.
     fn problem(value: Option<&Value<'_>>) -> Problem

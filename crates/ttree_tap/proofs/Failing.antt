@@ -36,12 +36,12 @@ use Rattle.ttree_tap.specs.declared.tap.subtests.Heading.{Heading}
 use Rattle.ttree_tap.specs.declared.tap.subtests.Subtest.{Subtest}
 use Rattle.ttree_tap.specs.declared.tap.waiting.Waiting.{Waiting}
 use Rattle.ttree_tap.specs.Failures.{after_all, calls_before_counts, has_error, is_error, is_error_row}
-use Rattle.ttree_tap.specs.Line.{begins_inside, comment_of, is_braced, is_count, is_failed_summary, kind_of, name_of_file, number_of, plan_reason, planned, tail_of_file, unbraced, verdict_level, ends_summary}
-use Rattle.ttree_tap.specs.Queue.{QueueState, added, claimed, failed_added, line_kept, readied}
+use Rattle.ttree_tap.specs.Line.{begins_inside, comment_of, is_braced, is_count, is_failed_summary, kind_of_line, name_of_file, first_number, plan_reason, planned, tail_of_file, unbraced, verdict_level, ends_summary}
+use Rattle.ttree_tap.specs.Queue.{QueueState, call_added, claimed, failed_added, line_kept, readied}
 use Rattle.ttree_tap.specs.Strings.{rest_after, unescaped, without_end, without_leading, without_margin}
-use Rattle.ttree_tap.specs.Tally.{broken_tally, counted_tally, has_failed, level_of, tally_fields, verdict_of}
-use Rattle.ttree_tap.specs.Texts.{begins_block, duration_of, missing_text, name_in, no_plan_text, plan_text, unfinished_text}
-use Rattle.ttree_tap.specs.Tap.{TapState, after_taken, all_ended, bailed_out, begun, begun_anew, begun_as, begun_first, block_begun, block_taken, brace_ended, brace_ended_if, brace_taken, brace_taken_at, braces_opened, closed, closed_if, come, come_if, come_to, comment_taken, counted_waiting, deepened, deeper_left, detail_taken, error_emitted, file_come, file_opened, file_taken, finished, flushed, flushed_if, given_from, given_taken, good_emitted, handed_out, heading_ended, heading_ended_if, heading_placed, heading_taken, held_taken, held_taken_at, inner_left, input_ended, input_ended_in, inside_taken, is_passed_over, is_kept_plan, is_unjudged, judged, kind_taken, left, left_if, left_to, line_taken, line_emitted, lines_claimed, missed, next_taken, nothing_run, number_taken, one_counted, opened, opened_inside, outside_taken, output_taken, part_of, part_taken, place_of, plan_kept, plan_missed, plan_set, plan_taken, reporter_counts, restarted, result_beside, result_deeper, result_held, result_in, result_placed, result_taken, result_emitted, results_missed, role_in, role_of, row_emitted, script, script_closed, script_missed, skip_emitted, spanned, subtest_ended, subtest_ended_to, subtest_opened, summary_begun, summary_over, summary_taken, tail_taken, tail_emitted, taken_as, taken_if, taken_in, tally_call, tap_ended, tap_ends, tap_takes, text_taken, text_taken_if, timed, timed_or_emitted, emitted, unheld_taken, verdict_taken, verdict_emitted, waiting_of, waits, with_span, without_heading, without_result}
+use Rattle.ttree_tap.specs.Tally.{broken_tally, counted_tally, level_of_verdict, tally_fields, tally_has_failure, verdict_of}
+use Rattle.ttree_tap.specs.Texts.{begins_block, duration_of, missing_text, no_plan_text, plan_text, result_name, unfinished_text}
+use Rattle.ttree_tap.specs.Tap.{TapState, after_taken, all_ended, bailed_out, script_begun, begun_anew, begun_as, begun_first, block_begun, block_taken, brace_ended, brace_ended_if, brace_taken, brace_taken_at, braces_opened, test_span_closed, closed_if, come, come_if, come_to, comment_taken, counted_waiting, deepened, deeper_left, detail_taken, error_emitted, file_come, file_opened, file_taken, result_finished, flushed, flushed_if, given_from, given_taken, good_emitted, handed_out, heading_ended, heading_ended_if, heading_placed, heading_taken, held_taken, held_taken_at, inner_left, input_ended, input_ended_in, inside_taken, is_passed_over, is_kept_plan, is_unjudged, judged, kind_taken, subtest_left, left_if, left_to, tap_line_taken, tap_line_emitted, lines_claimed, missed, next_taken, nothing_run, number_taken, one_counted, test_span_opened, opened_inside, outside_taken, output_taken, part_of, part_taken, line_place, plan_kept, plan_missed, plan_set, plan_taken, reporter_counts, restarted, result_beside, result_deeper, result_held, result_in, result_placed, result_taken, result_emitted, results_missed, role_in, role_of, row_emitted, script, script_closed, script_missed, skip_emitted, spanned, subtest_ended, subtest_ended_to, subtest_opened, summary_begun, summary_over, summary_taken, tail_taken, tail_emitted, taken_as, taken_if, taken_in, tally_call, tap_ended, tap_ends, tap_takes, text_taken, text_taken_if, result_timed, timed_or_emitted, call_queued, unheld_taken, verdict_taken, verdict_emitted, waiting_of, waits, with_own_span, without_heading, without_result}
 
 -- ---- tests
 
@@ -103,13 +103,13 @@ failed_quiet CommentLine call q calm quiet = either_ready q.is_after_failure (re
 failed_quiet Opening call q calm quiet = refl
 failed_quiet Closing call q calm quiet = closing_quiet q.opens call q quiet
 
-added_quiet : (role : Role) (call : Call) (q : QueueState) → is_loud role ≡ false → is_error_row call ≡ false → has_error (added role call q).ready ≡ has_error q.ready
-unfolding added
+added_quiet : (role : Role) (call : Call) (q : QueueState) → is_loud role ≡ false → is_error_row call ≡ false → has_error (call_added role call q).ready ≡ has_error q.ready
+unfolding call_added
 added_quiet role call q calm quiet =
     either_ready q.is_failed_only (failed_added role call q) (readied call q) (has_error q.ready) (failed_quiet role call q calm quiet) (with_quiet q.ready call quiet)
 
-added_error : (call : Call) (q : QueueState) → is_error_row call ≡ true → has_error (added Failure call q).ready ≡ true
-unfolding added claimed
+added_error : (call : Call) (q : QueueState) → is_error_row call ≡ true → has_error (call_added Failure call q).ready ≡ true
+unfolding call_added claimed
 added_error call q loud =
     either_ready q.is_failed_only (failed_added Failure call q) (readied call q) true (with_error ((claimed [] q).ready ++ (claimed [] q).held) call loud) (with_error q.ready call loud)
 
@@ -118,7 +118,7 @@ added_error call q loud =
 -- An ERROR was returned before, or is ready, or is the result that waits, exactly if something has
 -- failed.
 abbrev Agrees : Bool → Bool → TapState → Type 0
-Agrees e p s = ((e || has_error s.queue.ready) || p) ≡ has_failed s.tally
+Agrees e p s = ((e || has_error s.queue.ready) || p) ≡ tally_has_failure s.tally
 
 -- no result waits, and none may open braces
 record Idle (e : Bool) (s : TapState) : Type 0 where
@@ -147,7 +147,7 @@ held e s j = record {
   one = inl j.none;
 }
 
-emitted_quiet : (e p : Bool) (role : Role) (call : Call) (s : TapState) → is_loud role ≡ false → is_error_row call ≡ false → Agrees e p s → Agrees e p (emitted role call s)
+emitted_quiet : (e p : Bool) (role : Role) (call : Call) (s : TapState) → is_loud role ≡ false → is_error_row call ≡ false → Agrees e p s → Agrees e p (call_queued role call s)
 emitted_quiet e p role call s calm quiet i = ap (λ r. (e || r) || p) (added_quiet role call s.queue calm quiet) ∙ i
 
 emitted_error : (e p : Bool) (text : List ℕ) (span : Option Id) (s : TapState) → Agrees e p (error_emitted text span s)
@@ -156,14 +156,14 @@ emitted_error e p text span s = any_true e p _ (added_error (event_call s.moment
 fails_with : (e : Bool) (text : List ℕ) (span : Option Id) (s : TapState) → Idle e s → Idle e (error_emitted text span s)
 fails_with e text span s j = record { agrees = emitted_error e false text span s; none = j.none; bare = j.bare }
 
-quiet : (e : Bool) (role : Role) (call : Call) (s : TapState) → is_loud role ≡ false → is_error_row call ≡ false → Idle e s → Idle e (emitted role call s)
+quiet : (e : Bool) (role : Role) (call : Call) (s : TapState) → is_loud role ≡ false → is_error_row call ≡ false → Idle e s → Idle e (call_queued role call s)
 quiet e role call s calm still j = record { agrees = emitted_quiet e false role call s calm still j.agrees; none = j.none; bare = j.bare }
 
-open_agrees : (e p : Bool) (name : List ℕ) (parent : Option Id) (s : TapState) → Agrees e p s → Agrees e p (opened name parent s)
+open_agrees : (e p : Bool) (name : List ℕ) (parent : Option Id) (s : TapState) → Agrees e p s → Agrees e p (test_span_opened name parent s)
 unfolding claimed
 open_agrees e p name parent s i = emitted_quiet e p Opening (span_call s.moment name [] parent) (lines_claimed name s) refl refl i
 
-opens_span : (e : Bool) (name : List ℕ) (parent : Option Id) (s : TapState) → Idle e s → Idle e (opened name parent s)
+opens_span : (e : Bool) (name : List ℕ) (parent : Option Id) (s : TapState) → Idle e s → Idle e (test_span_opened name parent s)
 opens_span e name parent s j = record { agrees = open_agrees e false name parent s j.agrees; none = j.none; bare = j.bare }
 
 closes_span : (e : Bool) (span parent : Option Id) (s : TapState) → Idle e s → Idle e (closed_if span parent s)
@@ -175,7 +175,8 @@ closes_span e None parent s j = j
 -- ---- the result that waits
 
 ended_row : (e : Bool) (verdict : Verdict) (span at : Option Id) (text : List ℕ) (fields : List Field) (s : TapState) → Agrees e (fails verdict) s
-    → Agrees e false (row_emitted (role_of verdict span) (level_of verdict) text fields at s)
+    → Agrees e false (row_emitted (role_of verdict span) (level_of_verdict verdict)
+    text fields at s)
 ended_row e Failed span at text fields s i =
     any_true e false _ (added_error (event_call s.moment Error (message_field text ∷ fields) at) s.queue refl)
     ∙ sym (or_true (e || has_error s.queue.ready)) ∙ i
@@ -186,8 +187,8 @@ ended_row e Skipped None at text fields s i = emitted_quiet e false Good _ s ref
 ended_row e Todo (Some id) at text fields s i = emitted_quiet e false End _ s refl refl i
 ended_row e Todo None at text fields s i = emitted_quiet e false Good _ s refl refl i
 
-finish : (e : Bool) (w : Waiting) (s : TapState) → Agrees e (fails w.verdict) s → s.waiting ≡ None → s.braced ≡ None → Idle e (finished w s)
-unfolding finished claimed
+finish : (e : Bool) (w : Waiting) (s : TapState) → Agrees e (fails w.verdict) s → s.waiting ≡ None → s.braced ≡ None → Idle e (result_finished w s)
+unfolding result_finished claimed
 finish e w s i none bare =
     closes_span e w.span w.parent _ (record { agrees = ended_row e w.verdict w.span _ _ _ (lines_claimed w.label s) i; none = none; bare = bare })
 
@@ -209,7 +210,7 @@ subtest e column name s j =
 
 same : (e : Bool) (s t : TapState) → t.queue ≡ s.queue → t.tally ≡ s.tally → t.waiting ≡ s.waiting → t.braced ≡ s.braced → Idle e s → Idle e t
 same e s t q k w b j = record {
-  agrees = ap (λ (q : QueueState). (e || has_error q.ready) || false) q ∙ j.agrees ∙ sym (ap has_failed k);
+  agrees = ap (λ (q : QueueState). (e || has_error q.ready) || false) q ∙ j.agrees ∙ sym (ap tally_has_failure k);
   none = w ∙ j.none;
   bare = b ∙ j.bare;
 }
@@ -245,7 +246,7 @@ unfolding deeper_left
 leaves_deeper e column s j =
     let t = inner_left column s.outer s in
     let k = leaves_inner e column s.outer s j in
-    choose (Idle e) (nat_lt column t.subtest.column) (left t) t (leaves_to e t.outer t k) k
+    choose (Idle e) (nat_lt column t.subtest.column) (subtest_left t) t (leaves_to e t.outer t k) k
 
 -- ---- plans
 
@@ -313,7 +314,7 @@ waits_held e s k = record { agrees = k.agrees; one = inr k.bare }
 nonzero : (n : ℕ) → not (one_more n == 0) ≡ true
 nonzero n = grind arith
 
-counted : (verdict : Verdict) (x : Bool) (t : Tally) → (x || false) ≡ has_failed t → (x || fails verdict) ≡ has_failed (counted_tally verdict t)
+counted : (verdict : Verdict) (x : Bool) (t : Tally) → (x || false) ≡ tally_has_failure t → (x || fails verdict) ≡ tally_has_failure (counted_tally verdict t)
 counted Failed x t h = or_true x ∙ sym (ap (λ b. t.is_broken || b) (nonzero t.failed) ∙ or_true t.is_broken)
 counted Passed x t h = h
 counted Skipped x t h = h
@@ -327,7 +328,7 @@ emits_result e span name mark rest s j = record {
 
 result : (e : Bool) (span : Option Id) (name : List ℕ) (mark : Mark) (rest : List ℕ) (s : TapState) → Idle e s → Waits e (result_in span name mark rest s)
 unfolding result_in
-result e span name mark rest s j = emits_result e span name mark rest _ (takes_number e (number_of rest) s j)
+result e span name mark rest s j = emits_result e span name mark rest _ (takes_number e (first_number rest) s j)
 
 ends_subtest_to : (e : Bool) (outer : List Subtest) (mark : Mark) (rest : List ℕ) (s : TapState) → Idle e s → Held e (subtest_ended_to outer mark rest s)
 ends_subtest_to e [] mark rest s j = held e s j
@@ -345,7 +346,7 @@ beside e mark rest s j =
     (record { agrees = (held e s j).agrees; one = inl j.none }) (waits_held e _ (result e None [] mark rest s j))
 
 deeper : (e : Bool) (braced : Option Braced) (mark : Mark) (rest : List ℕ) (s : TapState) → Idle e s → Held e (result_deeper braced mark rest s)
-deeper e (Some braced) mark rest s j = beside e mark rest (left s) (leaves_to e s.outer s j)
+deeper e (Some braced) mark rest s j = beside e mark rest (subtest_left s) (leaves_to e s.outer s j)
 deeper e None mark rest s j = ends_subtest e mark rest s j
 
 places : (e : Bool) (mark : Mark) (rest : List ℕ) (s : TapState) → Idle e s → Held e (result_placed mark rest s)
@@ -402,7 +403,7 @@ comes_file : (e : Bool) (name : List ℕ) (s : TapState) → Idle e s → Idle e
 unfolding file_come
 comes_file e name s j =
     choose (Idle e) (Rattle.ttree_tap.specs.Tap.is_in_file name s) _ _ j
-    (same e (opened name None (script_closed s)) _ refl refl refl refl (opens_span e name None _ (closes_script e s j)))
+    (same e (test_span_opened name None (script_closed s)) _ refl refl refl refl (opens_span e name None _ (closes_script e s j)))
 
 emits_verdict : (e : Bool) (level : Level) (text : List ℕ) (s : TapState) → Idle e s → Idle e (verdict_emitted level text s)
 emits_verdict e Error text s j = same e (error_emitted text s.subtest.span s) _ refl refl refl refl (fails_with e text s.subtest.span s j)
@@ -434,7 +435,7 @@ ends_the_summary : (e : Bool) (text : List ℕ) (s : TapState) → Held e s → 
 unfolding summary_taken
 ends_the_summary e text s k =
     choose (Held e) (ends_summary text) _ _
-    (choose (Held e) (is_failed_summary text && not (has_failed s.tally)) _ _
+    (choose (Held e) (is_failed_summary text && not (tally_has_failure s.tally)) _ _
     (record { agrees = emitted_error e (pending s.waiting) text None (record s { mode = Over }); one = k.one }) (record { agrees = k.agrees; one = k.one }))
     k
 
@@ -460,8 +461,8 @@ begins_as e Judged kind s j = j
 begins_as e Summary kind s j = j
 begins_as e Bailed kind s j = j
 
-begins : (e : Bool) (kind : Kind) (s : TapState) → Idle e s → Idle e (begun kind s)
-unfolding begun
+begins : (e : Bool) (kind : Kind) (s : TapState) → Idle e s → Idle e (script_begun kind s)
+unfolding script_begun
 begins e kind s j = begins_as e s.mode kind s j
 
 takes_as : (e : Bool) (kind : Kind) (column : ℕ) (text inner : List ℕ) (s : TapState) → Idle e s → Held e (taken_as kind column text inner s)
@@ -485,7 +486,7 @@ takes_part e FileLine text inner s j = held e _ (takes_file e text s j)
 takes_part e (VerdictLine level) text inner s j = held e _ (takes_verdict e level text s j)
 takes_part e StampLine text inner s j = held e s j
 takes_part e SummaryLine text inner s j = held e _ (begins_summary e s j)
-takes_part e Line text inner s j = takes_kind e (kind_of inner) _ text inner s j
+takes_part e Line text inner s j = takes_kind e (kind_of_line inner) _ text inner s j
 
 takes_next : (e : Bool) (text : List ℕ) (s : TapState) → Idle e s → Held e (next_taken text s)
 unfolding next_taken
@@ -500,12 +501,12 @@ record Taken (e : Bool) (w : Waiting) (s : TapState) : Type 0 where
   none : s.waiting ≡ None
   bare : s.braced ≡ None
 
-finishes : (e : Bool) (w : Waiting) (s : TapState) → Taken e w s → Idle e (finished w s)
+finishes : (e : Bool) (w : Waiting) (s : TapState) → Taken e w s → Idle e (result_finished w s)
 finishes e w s k = finish e w s k.agrees k.none k.bare
 
 spans : (e : Bool) (is : Bool) (w : Waiting) (span : Option Id) (label text : List ℕ) (s t : TapState) → Agrees e (fails w.verdict) s → Agrees e (fails w.verdict) t →
     Agrees e (fails (if is then w else record w { span = span; label = label }).verdict)
-    (line_emitted OutputLine text (if is then w else record w { span = span; label = label }).span (if is then s else t))
+    (tap_line_emitted OutputLine text (if is then w else record w { span = span; label = label }).span (if is then s else t))
 spans e true w span label text s t i k = emitted_quiet e _ OutputLine _ s refl refl i
 spans e false w span label text s t i k = emitted_quiet e _ OutputLine _ t refl refl k
 
@@ -516,8 +517,8 @@ bare_if false s t hs ht = ht
 details : (e : Bool) (w : Waiting) (text : List ℕ) (s : TapState) → Taken e w s → Held e (detail_taken w text s)
 unfolding detail_taken
 details e w text s k = record {
-  agrees = spans e (is_some w.span) w _ [] text s (opened w.label w.parent s) k.agrees (open_agrees e _ w.label w.parent s k.agrees);
-  one = inr (bare_if (is_some w.span) s (opened w.label w.parent s) k.bare k.bare);
+  agrees = spans e (is_some w.span) w _ [] text s (test_span_opened w.label w.parent s) k.agrees (open_agrees e _ w.label w.parent s k.agrees);
+  one = inr (bare_if (is_some w.span) s (test_span_opened w.label w.parent s) k.bare k.bare);
 }
 
 times_or_emits : (e : Bool) (time : Option ℕ) (w : Waiting) (rest : List ℕ) (s : TapState) → Taken e w s → Held e (timed_or_emitted time w rest s)
@@ -581,8 +582,8 @@ takes_in e Script text s k = takes_text e text s k
 takes_in e File text s k = takes_text e text s k
 takes_in e Judged text s k = takes_text e text s k
 
-takes_line : (e : Bool) (line : List ℕ) (s : TapState) → Held e s → Held e (line_taken line s)
-unfolding line_taken
+takes_line : (e : Bool) (line : List ℕ) (s : TapState) → Held e s → Held e (tap_line_taken line s)
+unfolding tap_line_taken
 takes_line e line s k = takes_in e s.mode _ s k
 
 -- ---- all lines
@@ -600,7 +601,7 @@ AfterLine e interpreted = Held (e || has_error interpreted.calls) interpreted.so
 
 known_line : (e : Bool) (s : TapState) (line : List ℕ) (value : Option Json) → Held e s → AfterLine e (interpreted_step s (tap_takes s line value))
 known_line e s line value k =
-    returns_ready e _ (choose (Held e) (is_passed_over line s) s (line_taken line s) k (takes_line e line s k))
+    returns_ready e _ (choose (Held e) (is_passed_over line s) s (tap_line_taken line s) k (takes_line e line s k))
 
 nothing_new : (e : Bool) (s : TapState) → Held e s → Held (e || false) s
 nothing_new e s k = subst (λ b. Held b s) (sym (or_false e)) k
@@ -665,7 +666,7 @@ at_first is_failed_only next moment = record { agrees = refl; one = inl refl }
 
 -- a run of TAP has failed exactly if a row is an ERROR
 pub failed_by_a_row : (is_failed_only : Bool) (next : ℕ) (moment : Moment) (lines : List (List ℕ)) →
-    has_failed (source_after tap_takes tap_ended (nothing_run is_failed_only next moment) lines).tally
+    tally_has_failure (source_after tap_takes tap_ended (nothing_run is_failed_only next moment) lines).tally
     ≡ has_error (calls_before_counts (nothing_run is_failed_only next moment) lines)
 failed_by_a_row is_failed_only next moment lines =
     let s = nothing_run is_failed_only next moment in

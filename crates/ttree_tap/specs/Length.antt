@@ -30,11 +30,11 @@ if_fits count = if nat_lt count (2 ^ 64) then Some count else None
 abbrev pub nanoseconds : ℕ → ℕ → Option ℕ
 nanoseconds whole part = if_fits (whole * 1_000_000 + part)
 
-abbrev pub is_point : ℕ → Bool
-is_point byte = byte == 46
+abbrev pub is_length_point : ℕ → Bool
+is_length_point byte = byte == 46
 
 abbrev pub has_point : List ℕ → Bool
-has_point text = nat_lt (position_or_len is_point text) (length text)
+has_point text = nat_lt (position_or_len is_length_point text) (length text)
 
 abbrev pub decimal_milliseconds : List ℕ → List ℕ → Option ℕ
 decimal_milliseconds whole part =
@@ -45,5 +45,5 @@ decimal_milliseconds whole part =
 abbrev pub milliseconds : List ℕ → Option ℕ
 milliseconds text =
     if has_point text
-    then decimal_milliseconds (before_first is_point text) (after_first is_point text)
+    then decimal_milliseconds (before_first is_length_point text) (after_first is_length_point text)
     else option_and_then (λ n. nanoseconds n 0) (whole_of text)

@@ -44,8 +44,8 @@ is_frame text =
     || begins (codes "pragma ") text
 
 -- the kind of a line, by what follows its indentation
-unfoldable pub kind_of : List ℕ → Kind
-kind_of text =
+unfoldable pub kind_of_line : List ℕ → Kind
+kind_of_line text =
     if is_result (codes "ok") text then Passing
     else if is_result (codes "not ok") text then Failing
     else if begins (codes "#") text then kind_of_comment text
@@ -103,13 +103,13 @@ is_count comment = is_reporters (first_word comment) && is_some (milliseconds (a
 
 -- ---- results, by what follows `ok`
 
-abbrev pub number_of : List ℕ → Option ℕ
-number_of rest = whole_of (first_word (without_leading 32 rest))
+abbrev pub first_number : List ℕ → Option ℕ
+first_number rest = whole_of (first_word (without_leading 32 rest))
 
 -- what follows the number and the dash
 abbrev pub described : List ℕ → List ℕ
 described rest =
-    if is_some (number_of rest) then dashless (after_word (without_leading 32 rest))
+    if is_some (first_number rest) then dashless (after_word (without_leading 32 rest))
     else dashless (without_leading 32 rest)
 
 -- the nanoseconds of `time=12ms`
@@ -218,8 +218,8 @@ abbrev pub unstamped : List ℕ → List ℕ
 unstamped line = if is_stamp (first_word line) then after_word line else line
 
 -- a line that counts the tests that failed, as `Failed 2/5 subtests`
-abbrev pub is_failure : List ℕ → Bool
-is_failure line = if_mark (after_mark (codes "Failed ") line) where
+abbrev pub counts_failures : List ℕ → Bool
+counts_failures line = if_mark (after_mark (codes "Failed ") line) where
   if_mark : Option (List ℕ) → Bool
   if_mark (Some rest) = is_pair 47 (first_word rest)
   if_mark None = false
@@ -249,7 +249,7 @@ is_good_verdict line = bytes_eq line (codes "ok") || is_some (verdict_time line)
 abbrev pub is_bad_verdict : List ℕ → Bool
 is_bad_verdict line =
     begins (codes "Dubious, test returned ") line || begins (codes "No subtests run") line
-    || is_failure line || is_success line
+    || counts_failures line || is_success line
 
 -- the level of a verdict on a file
 unfoldable pub verdict_level : List ℕ → Option Level

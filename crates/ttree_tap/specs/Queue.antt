@@ -142,8 +142,8 @@ failed_added Opening call q = opening_added call q
 failed_added Closing call q = closing_added_to q.opens call q
 
 -- adds a call
-unfoldable pub added : Role → Call → QueueState → QueueState
-added role call q = if q.is_failed_only then failed_added role call q else readied call q
+unfoldable pub call_added : Role → Call → QueueState → QueueState
+call_added role call q = if q.is_failed_only then failed_added role call q else readied call q
 
 -- the innermost span is held, so its close leaves it out
 abbrev pub is_held : QueueState → Bool

@@ -21,17 +21,17 @@ verdict_of is_ok TodoNote = Todo
 verdict_of is_ok Time = if is_ok then Passed else Failed
 verdict_of is_ok Absent = if is_ok then Passed else Failed
 
-abbrev pub word_of : Verdict → List ℕ
-word_of Passed = codes "pass"
-word_of Failed = codes "fail"
-word_of Skipped = codes "skip"
-word_of Todo = codes "todo"
+abbrev pub verdict_word : Verdict → List ℕ
+verdict_word Passed = codes "pass"
+verdict_word Failed = codes "fail"
+verdict_word Skipped = codes "skip"
+verdict_word Todo = codes "todo"
 
-abbrev pub level_of : Verdict → Level
-level_of Passed = Info
-level_of Failed = Error
-level_of Skipped = Warn
-level_of Todo = Warn
+abbrev pub level_of_verdict : Verdict → Level
+level_of_verdict Passed = Info
+level_of_verdict Failed = Error
+level_of_verdict Skipped = Warn
+level_of_verdict Todo = Warn
 
 -- each result is counted once, by its verdict
 abbrev pub counted_tally : Verdict → Tally → Tally
@@ -44,8 +44,8 @@ abbrev pub broken_tally : Tally → Tally
 broken_tally t = record t { is_broken = true }
 
 -- a result is a failure, or something other than a result is
-abbrev pub has_failed : Tally → Bool
-has_failed t = t.is_broken || not (t.failed == 0)
+abbrev pub tally_has_failure : Tally → Bool
+tally_has_failure t = t.is_broken || not (t.failed == 0)
 
 abbrev pub total_of : Tally → ℕ
 total_of t = t.passed + t.failed + t.skipped + t.todo

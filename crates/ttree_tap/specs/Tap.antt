@@ -34,11 +34,11 @@ use Rattle.ttree_tap.specs.declared.tap.subtests.Heading.{Heading}
 use Rattle.ttree_tap.specs.declared.tap.subtests.Subtest.{Subtest}
 use Rattle.ttree_tap.specs.declared.tap.waiting.Waiting.{Waiting}
 use Rattle.ttree_source.specs.Length.{length_text}
-use Rattle.ttree_tap.specs.Line.{begins_inside, begins_summary, comment_of, ends_summary, is_braced, is_count, is_failed_summary, is_file, is_stamp, kind_of, name_of_file, number_of, plan_reason, planned, tail_of_file, unbraced, verdict_level, verdict_time}
-use Rattle.ttree_tap.specs.Queue.{QueueState, added, claimed, empty_queue, is_held}
+use Rattle.ttree_tap.specs.Line.{begins_inside, begins_summary, comment_of, ends_summary, first_number, is_braced, is_count, is_failed_summary, is_file, is_stamp, kind_of_line, name_of_file, plan_reason, planned, tail_of_file, unbraced, verdict_level, verdict_time}
+use Rattle.ttree_tap.specs.Queue.{QueueState, call_added, claimed, empty_queue, is_held}
 use Rattle.ttree_tap.specs.Strings.{first_part, rest_after, unescaped, without_end, without_leading, without_margin}
-use Rattle.ttree_tap.specs.Tally.{broken_tally, counted_tally, has_failed, level_of, no_counts, tally_fields, verdict_of}
-use Rattle.ttree_tap.specs.Texts.{begins_block, directive_in, duration_of, elapsed_text, end_fields, end_text, good_text, label_of, missing_text, name_in, no_plan_text, plan_text, reason_in, time_fields, unfinished_text}
+use Rattle.ttree_tap.specs.Tally.{broken_tally, counted_tally, level_of_verdict, no_counts, tally_fields, tally_has_failure, verdict_of}
+use Rattle.ttree_tap.specs.Texts.{begins_block, directive_in, duration_of, elapsed_text, end_text, good_text, label_of, missing_text, no_plan_text, plan_text, reason_in, result_end_fields, result_name, time_fields, unfinished_text}
 
 -- What is known after a line: the id of the next span, the moment of all calls, which lines are
 -- read, the innermost subtest that runs (or the script), its ancestors with the nearest first, the
@@ -88,16 +88,16 @@ nothing_run is_failed_only next moment = record {
 
 -- ---- rows
 
-abbrev pub emitted : Role → Call → TapState → TapState
-emitted role call s = record s { queue = added role call s.queue }
+abbrev pub call_queued : Role → Call → TapState → TapState
+call_queued role call s = record s { queue = call_added role call s.queue }
 
 -- an event in this span
 abbrev pub row_emitted : Role → Level → List ℕ → List Field → Option Id → TapState → TapState
 row_emitted role level text rest span s =
-    emitted role (event_call s.moment level (message_field text ∷ rest) span) s
+    call_queued role (event_call s.moment level (message_field text ∷ rest) span) s
 
-abbrev pub line_emitted : Role → List ℕ → Option Id → TapState → TapState
-line_emitted role text span s = row_emitted role Info text [] span s
+abbrev pub tap_line_emitted : Role → List ℕ → Option Id → TapState → TapState
+tap_line_emitted role text span s = row_emitted role Info text [] span s
 
 -- a failure that isn't a result
 abbrev pub error_emitted : List ℕ → Option Id → TapState → TapState
@@ -109,9 +109,9 @@ abbrev pub lines_claimed : List ℕ → TapState → TapState
 lines_claimed name s = record s { queue = claimed name s.queue }
 
 -- a new span in this one; its id is the next
-abbrev pub opened : List ℕ → Option Id → TapState → TapState
-opened name parent s =
-    record (emitted Opening (span_call s.moment name [] parent) (lines_claimed name s)) {
+abbrev pub test_span_opened : List ℕ → Option Id → TapState → TapState
+test_span_opened name parent s =
+    record (call_queued Opening (span_call s.moment name [] parent) (lines_claimed name s)) {
       next = one_more s.next;
     }
 
@@ -119,12 +119,12 @@ opened name parent s =
 abbrev pub next_after : Id → TapState → ℕ
 next_after id s = if is_held s.queue then id.0 else s.next
 
-abbrev pub closed : Id → Option Id → TapState → TapState
-closed id parent s =
-    record (emitted Closing (close_call s.moment id parent) s) { next = next_after id s }
+abbrev pub test_span_closed : Id → Option Id → TapState → TapState
+test_span_closed id parent s =
+    record (call_queued Closing (close_call s.moment id parent) s) { next = next_after id s }
 
 abbrev pub closed_if : Option Id → Option Id → TapState → TapState
-closed_if (Some id) parent s = closed id parent s
+closed_if (Some id) parent s = test_span_closed id parent s
 closed_if None parent s = s
 
 -- ---- the result that waits
@@ -144,14 +144,15 @@ role_of Skipped span = role_in span
 role_of TodoVerdict span = role_in span
 
 -- a result ends: an event in its span, which closes, or in the parent span
-unfoldable pub finished : Waiting → TapState → TapState
-finished w s =
+unfoldable pub result_finished : Waiting → TapState → TapState
+result_finished w s =
     closed_if w.span w.parent
-    (row_emitted (role_of w.verdict w.span) (level_of w.verdict) (end_text w.verdict w.label)
-    (end_fields w.reason w.elapsed) (span_or w.span w.parent) (lines_claimed w.label s))
+    (row_emitted (role_of w.verdict w.span) (level_of_verdict w.verdict)
+    (end_text w.verdict w.label)
+    (result_end_fields w.reason w.elapsed) (span_or w.span w.parent) (lines_claimed w.label s))
 
 abbrev pub flushed_if : Option Waiting → TapState → TapState
-flushed_if (Some w) s = finished w s
+flushed_if (Some w) s = result_finished w s
 flushed_if None s = s
 
 unfoldable pub flushed : TapState → TapState
@@ -161,7 +162,7 @@ flushed s = flushed_if s.waiting (record s { waiting = None })
 
 unfoldable pub subtest_opened : ℕ → List ℕ → TapState → TapState
 subtest_opened column name s =
-    record (opened name s.subtest.span s) {
+    record (test_span_opened name s.subtest.span s) {
       subtest = new_subtest column (Some (id_of s.next)) name;
       outer = s.subtest ∷ s.outer;
     }
@@ -197,8 +198,8 @@ left_to (parent ∷ others) s =
     (error_emitted (codes "unfinished") s.subtest.span
     (record s { subtest = parent; outer = others }))
 
-abbrev pub left : TapState → TapState
-left s = left_to s.outer s
+abbrev pub subtest_left : TapState → TapState
+subtest_left s = left_to s.outer s
 
 -- the parent of the running subtest is deeper than this column
 abbrev pub is_nested : ℕ → List Subtest → Bool
@@ -213,7 +214,7 @@ inner_left column (parent ∷ others) s =
     else s
 
 abbrev pub left_if : ℕ → TapState → TapState
-left_if column s = if nat_lt column s.subtest.column then left s else s
+left_if column s = if nat_lt column s.subtest.column then subtest_left s else s
 
 -- subtests deeper than this column end without a result
 unfoldable pub deeper_left : ℕ → TapState → TapState
@@ -285,7 +286,7 @@ plan_set count s = plan_kept count (if is_some s.subtest.planned then restarted 
 -- everything is skipped
 unfoldable pub skip_emitted : List ℕ → TapState → TapState
 skip_emitted reason s =
-    row_emitted Good Warn (codes "skip") (end_fields (unescaped reason) []) s.subtest.span s
+    row_emitted Good Warn (codes "skip") (result_end_fields (unescaped reason) []) s.subtest.span s
 
 unfoldable pub plan_taken : ℕ → List ℕ → TapState → TapState
 plan_taken column text s =
@@ -324,7 +325,7 @@ unfoldable pub waiting_of : Option Id → List ℕ → Mark → List ℕ → Tap
 waiting_of span name mark rest s = record {
   column = mark.column;
   verdict = verdict_of mark.is_ok (directive_in rest);
-  label = label_of span name (unescaped (name_in rest)) s.subtest.last;
+  label = label_of span name (unescaped (result_name rest)) s.subtest.last;
   reason = unescaped (reason_in rest);
   elapsed = elapsed_text rest;
   span = span;
@@ -344,7 +345,7 @@ result_emitted span name mark rest s = counted_waiting (waiting_of span name mar
 
 -- a result of what runs, which ends the subtest with this span and this name
 unfoldable pub result_in : Option Id → List ℕ → Mark → List ℕ → TapState → TapState
-result_in span name mark rest s = result_emitted span name mark rest (number_taken (number_of rest) s)
+result_in span name mark rest s = result_emitted span name mark rest (number_taken (first_number rest) s)
 
 -- a result ends the subtest before it
 abbrev pub subtest_ended_to : List Subtest → Mark → List ℕ → TapState → TapState
@@ -367,7 +368,7 @@ result_beside mark rest s =
 
 -- a result ends the subtest that is deeper, unless that is in braces: these are unfinished then
 abbrev pub result_deeper : Option Braced → Mark → List ℕ → TapState → TapState
-result_deeper (Some braced) mark rest s = result_beside mark rest (left s)
+result_deeper (Some braced) mark rest s = result_beside mark rest (subtest_left s)
 result_deeper None mark rest s = subtest_ended mark rest s
 
 abbrev pub result_placed : Mark → List ℕ → TapState → TapState
@@ -389,8 +390,8 @@ result_taken mark rest s =
 
 -- where the next line is: in the braces, right behind them, or beside the result, whose brace then
 -- belongs to its description
-abbrev pub place_of : ℕ → ℕ → Kind → Place
-place_of column other kind =
+abbrev pub line_place : ℕ → ℕ → Kind → Place
+line_place column other kind =
     if nat_lt column other && begins_inside kind then Inside
     else if (column == other) && is_brace kind then After
     else Beside where
@@ -414,7 +415,7 @@ opened_inside b heading column s =
 unfoldable pub braces_opened : Braced → ℕ → TapState → TapState
 braces_opened b column s =
     opened_inside b
-    (record { column = b.mark.column; name = unescaped (name_in (unbraced b.rest)) }) column s
+    (record { column = b.mark.column; name = unescaped (result_name (unbraced b.rest)) }) column s
 
 -- ---- headings, comments and output
 
@@ -435,11 +436,11 @@ reporter_counts s = (length s.outer == 0) && is_some s.subtest.planned
 unfoldable pub comment_taken : List ℕ → TapState → TapState
 comment_taken comment s =
     if reporter_counts s && is_count comment then s
-    else line_emitted CommentLine (unescaped comment) s.subtest.span s
+    else tap_line_emitted CommentLine (unescaped comment) s.subtest.span s
 
 -- what a test printed, without the column of its lines
 unfoldable pub output_taken : List ℕ → TapState → TapState
-output_taken text s = line_emitted OutputLine (without_margin s.subtest.column text) s.subtest.span s
+output_taken text s = tap_line_emitted OutputLine (without_margin s.subtest.column text) s.subtest.span s
 
 abbrev pub without_result : TapState → TapState
 without_result s = record s { subtest = record s.subtest { result = None } }
@@ -467,7 +468,7 @@ bailed_out text s =
 
 abbrev pub file_opened : List ℕ → TapState → TapState
 file_opened name s =
-    record (opened name None s) {
+    record (test_span_opened name None s) {
       subtest = new_subtest 0 (Some (id_of s.next)) name;
       mode = File;
     }
@@ -519,7 +520,7 @@ summary_begun s = record (script_closed (deeper_left 0 (without_heading s))) { m
 -- the summary ends; a failure in it is an error, unless something is one already
 abbrev pub summary_over : List ℕ → TapState → TapState
 summary_over text s =
-    if is_failed_summary text && not (has_failed s.tally)
+    if is_failed_summary text && not (tally_has_failure s.tally)
     then error_emitted text None (record s { mode = Over })
     else record s { mode = Over }
 
@@ -579,8 +580,8 @@ begun_as Judged kind s = s
 begun_as Summary kind s = s
 begun_as Bailed kind s = s
 
-unfoldable pub begun : Kind → TapState → TapState
-begun kind s = begun_as s.mode kind s
+unfoldable pub script_begun : Kind → TapState → TapState
+script_begun kind s = begun_as s.mode kind s
 
 abbrev pub taken_as : Kind → ℕ → List ℕ → List ℕ → TapState → TapState
 taken_as Passing column text inner s =
@@ -598,7 +599,8 @@ taken_as Output column text inner s = output_taken text s
 
 -- a line of this kind and in this column; `inner` is the line without its indentation
 unfoldable pub kind_taken : Kind → ℕ → List ℕ → List ℕ → TapState → TapState
-kind_taken kind column text inner s = taken_as kind column text inner (come column (begun kind s))
+kind_taken kind column text inner s =
+    taken_as kind column text inner (come column (script_begun kind s))
 
 unfoldable pub part_taken : Part → List ℕ → List ℕ → TapState → TapState
 part_taken FileLine text inner s = file_taken text s
@@ -606,7 +608,7 @@ part_taken (VerdictLine level) text inner s = verdict_taken level text s
 part_taken StampLine text inner s = s
 part_taken SummaryLine text inner s = summary_begun s
 part_taken Line text inner s =
-    kind_taken (kind_of inner) (length text - length inner) text inner s
+    kind_taken (kind_of_line inner) (length text - length inner) text inner s
 
 -- a line that doesn't belong to the result before it; a blank one means nothing
 unfoldable pub next_taken : List ℕ → TapState → TapState
@@ -619,36 +621,37 @@ next_taken text s =
 abbrev pub block_begun : Waiting → List ℕ → TapState → TapState
 block_begun w text s = waits (record w { margin = first_part 45 text }) s
 
-abbrev pub timed : Waiting → ℕ → TapState → TapState
-timed w nanoseconds s = waits (record w { elapsed = length_text nanoseconds }) s
+abbrev pub result_timed : Waiting → ℕ → TapState → TapState
+result_timed w nanoseconds s = waits (record w { elapsed = length_text nanoseconds }) s
 
 -- a result whose block has more than its time is a span
-abbrev pub with_span : Waiting → TapState → Waiting
-with_span w s =
+abbrev pub with_own_span : Waiting → TapState → Waiting
+with_own_span w s =
     if is_some w.span then w else record w { span = Some (id_of s.next); label = [] }
 
 abbrev pub spanned : Waiting → TapState → TapState
-spanned w s = if is_some w.span then s else opened w.label w.parent s
+spanned w s = if is_some w.span then s else test_span_opened w.label w.parent s
 
 -- a line of a block is an event in the span of its result
 unfoldable pub detail_taken : Waiting → List ℕ → TapState → TapState
 detail_taken w text s =
-    waits (with_span w s) (line_emitted OutputLine text (with_span w s).span (spanned w s))
+    waits (with_own_span w s)
+    (tap_line_emitted OutputLine text (with_own_span w s).span (spanned w s))
 
 abbrev pub timed_or_emitted : Option ℕ → Waiting → List ℕ → TapState → TapState
-timed_or_emitted (Some nanoseconds) w rest s = timed w nanoseconds s
+timed_or_emitted (Some nanoseconds) w rest s = result_timed w nanoseconds s
 timed_or_emitted None w rest s = detail_taken w rest s
 
 unfoldable pub inside_taken : Waiting → List ℕ → TapState → TapState
 inside_taken w rest s =
-    if bytes_eq rest (codes "...") then finished w s
+    if bytes_eq rest (codes "...") then result_finished w s
     else timed_or_emitted (duration_of rest) w rest s
 
 -- a line that isn't as deep as the block: the block is truncated, unless the line is blank
 unfoldable pub outside_taken : Waiting → List ℕ → TapState → TapState
 outside_taken w text s =
     if is_empty (without_leading 32 text) then detail_taken w [] s
-    else next_taken text (finished w s)
+    else next_taken text (result_finished w s)
 
 unfoldable pub block_taken : Waiting → List ℕ → TapState → TapState
 block_taken w text s = by (after_mark w.margin text) where
@@ -661,7 +664,7 @@ unfoldable pub after_taken : Waiting → List ℕ → TapState → TapState
 after_taken w text s =
     if not (is_empty w.margin) then block_taken w text s
     else if begins_block w.column text then block_begun w text s
-    else next_taken text (finished w s)
+    else next_taken text (result_finished w s)
 
 abbrev pub taken_if : Option Waiting → List ℕ → TapState → TapState
 taken_if (Some w) text s = after_taken w text s
@@ -680,8 +683,8 @@ held_taken_at Beside b text s = unheld_taken text (result_in None [] b.mark b.re
 unfoldable pub held_taken : Braced → List ℕ → TapState → TapState
 held_taken b text s =
     held_taken_at
-    (place_of b.mark.column (length text - length (without_leading 32 text))
-    (kind_of (without_leading 32 text))) b text s
+    (line_place b.mark.column (length text - length (without_leading 32 text))
+    (kind_of_line (without_leading 32 text))) b text s
 
 abbrev pub text_taken_if : Option Braced → List ℕ → TapState → TapState
 text_taken_if (Some b) text s = held_taken b text s
@@ -699,8 +702,8 @@ taken_in Script text s = text_taken text s
 taken_in File text s = text_taken text s
 taken_in Judged text s = text_taken text s
 
-unfoldable pub line_taken : List ℕ → TapState → TapState
-line_taken line s = taken_in s.mode (without_end (codes "\r") line) s
+unfoldable pub tap_line_taken : List ℕ → TapState → TapState
+tap_line_taken line s = taken_in s.mode (without_end (codes "\r") line) s
 
 abbrev pub handed_out : TapState → Step TapState
 handed_out s = record {
@@ -719,7 +722,7 @@ is_passed_over line s = is_skipped line && not (is_in_block s.waiting)
 -- what a line means: each is known
 abbrev pub tap_takes : TapState → List ℕ → Option Json → Option (Step TapState)
 tap_takes s line value =
-    Some (handed_out (if is_passed_over line s then s else line_taken line s))
+    Some (handed_out (if is_passed_over line s then s else tap_line_taken line s))
 
 abbrev pub tap_problem : Option Json → Problem
 tap_problem value = Object
@@ -764,7 +767,8 @@ all_ended s =
 -- the event that counts the results
 abbrev pub tally_call : TapState → Call
 tally_call s =
-    event_call s.moment (if has_failed s.tally then Error else Info) (tally_fields s.tally) None
+    event_call s.moment (if tally_has_failure s.tally then Error else Info)
+    (tally_fields s.tally) None
 
 abbrev pub tap_ends : TapState → List Call
 tap_ends s = (all_ended s).queue.ready ++ tally_call (all_ended s) ∷ []

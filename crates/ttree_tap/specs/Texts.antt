@@ -4,7 +4,7 @@ use Rattle.tracing_tree_base.specs.declared.context.Id.{Id}
 use Rattle.tracing_tree_base.specs.declared.field.Field.{Field}
 use Rattle.ttree_source.specs.Counts.{one_more}
 use Rattle.ttree_source.specs.Marks.{after_mark, is_empty}
-use Rattle.ttree_source.specs.Calls.{shown}
+use Rattle.ttree_source.specs.Calls.{shown_text}
 use Rattle.ttree_tap.specs.declared.line.Directive.{Directive}
 use Rattle.ttree_tap.specs.declared.line.Directive.TheVariants.{Absent, Skip, Todo, Time}
 use Rattle.ttree_tap.specs.declared.tally.Verdict.{Verdict}
@@ -12,19 +12,19 @@ use Rattle.ttree_source.specs.Length.{length_text}
 use Rattle.ttree_tap.specs.Length.{milliseconds}
 use Rattle.ttree_tap.specs.Line.{described, directive_of, elapsed_of, label_part, reason_of, tail_of}
 use Rattle.ttree_tap.specs.Strings.{without_leading}
-use Rattle.ttree_tap.specs.Tally.{word_of}
+use Rattle.ttree_tap.specs.Tally.{verdict_word}
 
 -- the verdict's word, and what it is on unless the span says that
 abbrev pub end_text : Verdict → List ℕ → List ℕ
 end_text verdict label =
-    if is_empty label then word_of verdict else word_of verdict ++ codes " " ++ label
+    if is_empty label then verdict_word verdict else verdict_word verdict ++ codes " " ++ label
 
 abbrev pub value_field : List ℕ → List ℕ → List Field
 value_field name value =
-    if is_empty value then [] else record { name = name; value = shown value } ∷ []
+    if is_empty value then [] else record { name = name; value = shown_text value } ∷ []
 
-abbrev pub end_fields : List ℕ → List ℕ → List Field
-end_fields reason elapsed =
+abbrev pub result_end_fields : List ℕ → List ℕ → List Field
+result_end_fields reason elapsed =
     value_field (codes "reason") reason ++ value_field (codes "time") elapsed
 
 abbrev pub plan_text : ℕ → ℕ → List ℕ
@@ -50,8 +50,8 @@ name_as Skip text label = label
 name_as Todo text label = label
 name_as Time text label = label
 
-abbrev pub name_in : List ℕ → List ℕ
-name_in rest = name_as (directive_in rest) (described rest) (label_part (described rest))
+abbrev pub result_name : List ℕ → List ℕ
+result_name rest = name_as (directive_in rest) (described rest) (label_part (described rest))
 
 abbrev pub reason_as : Directive → List ℕ → List ℕ
 reason_as Skip tail = reason_of tail

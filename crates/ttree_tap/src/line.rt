@@ -2,7 +2,7 @@
 
 ghost use Rattle.std.specs.Prelude.{◌≡◌, ◌<◌, option_map};
 ghost use Rattle.ttree_source.specs.Marks.{after_mark, begins};
-ghost use Rattle.ttree_tap.specs.Line.{after_dots, begins_inside, begins_note, begins_summary, bracketed, comment_of, described, directive_of, elapsed_of, elapsed_word, ends_summary, has_hash, is_bad_verdict, is_braced, is_clock, is_count, is_failed_summary, is_failure, is_file, is_frame, is_good_verdict, is_named, is_named_file, is_note, is_pair, is_plan, is_result, is_reporters, is_said, is_skip, is_spaced_note, is_stamp, is_success, is_unit, kind_of, kind_of_comment, label_part, name_of_file, note_place, number_of, plan_reason, planned, reason_of, space_note_place, tail_from, tail_of, tail_of_file, timer_of, unbraced, unstamped, verdict_level, verdict_time, without_colon, word_in};
+ghost use Rattle.ttree_tap.specs.Line.{after_dots, begins_inside, begins_note, begins_summary, bracketed, comment_of, described, directive_of, elapsed_of, elapsed_word, ends_summary, has_hash, is_bad_verdict, is_braced, is_clock, is_count, is_failed_summary, counts_failures, is_file, is_frame, is_good_verdict, is_named, is_named_file, is_note, is_pair, is_plan, is_result, is_reporters, is_said, is_skip, is_spaced_note, is_stamp, is_success, is_unit, kind_of_line, kind_of_comment, label_part, name_of_file, note_place, first_number, plan_reason, planned, reason_of, space_note_place, tail_from, tail_of, tail_of_file, timer_of, unbraced, unstamped, verdict_level, verdict_time, without_colon, word_in};
 
 use crate::length::milliseconds;
 use crate::strings::{
@@ -36,9 +36,9 @@ pub(crate) enum Kind {
 }
 
 // Returns the kind of a line, by what follows its indentation.
-#[tactic(auto, unfolding(crate::specs::Line::kind_of))]
+#[tactic(auto, unfolding(crate::specs::Line::kind_of_line))]
 pub(crate) fn kind_of(text: &str) -> Kind
-    ensures { result ≡ kind_of text.now }
+    ensures { result ≡ kind_of_line text.now }
 {
     if is_result("ok", text) {
         Kind::Passing
@@ -158,7 +158,7 @@ fn is_reporters(word: &str) -> bool
 
 // Returns the number of a result, by what follows `ok`.
 pub(crate) fn number_of(rest: &str) -> Option<u64>
-    ensures { result ≡ number_of rest.now }
+    ensures { result ≡ first_number rest.now }
 {
     whole_of(first_word(without_leading(' ', rest)))
 }
@@ -505,7 +505,7 @@ fn is_bad_verdict(line: &str) -> bool
 
 // Returns whether a line counts the tests that failed, as `Failed 2/5 subtests`.
 fn is_failure(line: &str) -> bool
-    ensures { result ≡ is_failure line.now }
+    ensures { result ≡ counts_failures line.now }
 {
     match after_mark(line, "Failed ") {
         Some(rest) => is_pair('/', first_word(rest)),

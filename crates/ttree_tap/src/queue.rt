@@ -1,7 +1,7 @@
 //! The calls that weren't returned yet.
 
 ghost use Rattle.std.specs.Prelude.{◌≡◌, ◌++◌, [], false, length, OnOk};
-ghost use Rattle.ttree_tap.specs.Queue.{added, base_of, claimed, claimed_line, claimed_lines, closing_added_to, empty_queue, end_added, failed_added, failure_added, good_added, has_part, held_too, is_held, is_named, let_go, line_added, message_of, opening_added, readied, value_in};
+ghost use Rattle.ttree_tap.specs.Queue.{base_of, call_added, claimed, claimed_line, claimed_lines, closing_added_to, empty_queue, end_added, failed_added, failure_added, good_added, has_part, held_too, is_held, is_named, let_go, line_added, message_of, opening_added, readied, value_in};
 
 use std::alloc::{AllocError, Global};
 use std::collections::VecDeque;
@@ -98,9 +98,9 @@ impl Queue {
     }
 
     // Adds a call.
-    #[tactic(auto, unfolding(crate::specs::Queue::added))]
+    #[tactic(auto, unfolding(crate::specs::Queue::call_added))]
     pub(crate) fn add(&mut self, role: Role, call: Call) -> Result<(), AllocError>
-        ensures { OnOk result (self.new ≡ added role call self.old) }
+        ensures { OnOk result (self.new ≡ call_added role call self.old) }
     {
         if self.is_failed_only {
             self.add_failed(role, call)

@@ -1,7 +1,7 @@
 //! How results end, and how many came to which end.
 
 ghost use Rattle.std.specs.Prelude.{◌≡◌, ◌+◌, ◌-◌, ◌<◌, ◌^◌, IfOk};
-ghost use Rattle.ttree_tap.specs.Tally.{broken_tally, counted_tally, has_failed, level_of, no_counts, tally_fields, total_of, verdict_of, word_of};
+ghost use Rattle.ttree_tap.specs.Tally.{broken_tally, counted_tally, level_of_verdict, no_counts, tally_fields, tally_has_failure, total_of, verdict_of, verdict_word};
 
 use crate::line::Directive;
 use std::alloc::{AllocError, Global};
@@ -40,7 +40,7 @@ impl Tally {
 
     /// Returns whether a test or anything else failed.
     pub fn has_failed(&self) -> bool
-        ensures { result ≡ has_failed self.now }
+        ensures { result ≡ tally_has_failure self.now }
     {
         self.is_broken || self.failed != 0
     }
@@ -121,7 +121,7 @@ impl Verdict {
     }
 
     pub(crate) fn word(self) -> &'static str
-        ensures { result.now ≡ word_of self }
+        ensures { result.now ≡ verdict_word self }
     {
         match self {
             Verdict::Passed => "pass",
@@ -132,7 +132,7 @@ impl Verdict {
     }
 
     pub(crate) fn level(self) -> Level
-        ensures { result ≡ level_of self }
+        ensures { result ≡ level_of_verdict self }
     {
         match self {
             Verdict::Passed => Level::Info,

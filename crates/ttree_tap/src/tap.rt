@@ -1,9 +1,9 @@
 //! Lines of TAP.
 
 ghost use Rattle.std.specs.Prelude.{◌≡◌, [], false, true, IfOk, OnOk, None, Some};
-ghost use Rattle.ttree_tap.specs.Tap.{all_ended, begun, begun_first, bailed_out, comment_taken, heading_ended, heading_taken, input_ended, is_in_block, is_passed_over, kind_taken, line_taken, next_taken, nothing_run, output_taken, part_of, part_taken, reporter_counts, summary_taken, tally_call, text_taken, unheld_taken};
+ghost use Rattle.ttree_tap.specs.Tap.{all_ended, script_begun, begun_first, bailed_out, comment_taken, heading_ended, heading_taken, input_ended, is_in_block, is_passed_over, kind_taken, tap_line_taken, next_taken, nothing_run, output_taken, part_of, part_taken, reporter_counts, summary_taken, tally_call, text_taken, unheld_taken};
 ghost use Rattle.ttree_tap.specs.Texts.{unfinished_text};
-ghost use Rattle.ttree_tap.specs.Tally.{has_failed};
+ghost use Rattle.ttree_tap.specs.Tally.{tally_has_failure};
 
 mod block;
 mod braces;
@@ -156,7 +156,7 @@ impl Tap {
     /// missing number, a script without a plan, a subtest without a result, `Bail out!`, a
     /// verdict or a summary of prove, or an input without a line of TAP.
     pub fn has_failed(&self) -> bool
-        ensures { result ≡ has_failed self.now.tally }
+        ensures { result ≡ tally_has_failure self.now.tally }
     {
         self.tally.has_failed()
     }
@@ -192,9 +192,9 @@ impl Tap {
         }
     }
 
-    #[tactic(auto, unfolding(crate::specs::Tap::line_taken))]
+    #[tactic(auto, unfolding(crate::specs::Tap::tap_line_taken))]
     fn take_line(&mut self, line: &str) -> Result<(), AllocError>
-        ensures { OnOk result (self.new ≡ line_taken line.now self.old) }
+        ensures { OnOk result (self.new ≡ tap_line_taken line.now self.old) }
     {
         let text = without_end("\r", line);
         match self.mode {
@@ -280,9 +280,9 @@ impl Tap {
     }
 
     // Starts a script, at its first line of TAP.
-    #[tactic(auto, unfolding(crate::specs::Tap::begun))]
+    #[tactic(auto, unfolding(crate::specs::Tap::script_begun))]
     fn begin(&mut self, kind: Kind)
-        ensures { self.new ≡ begun kind self.old }
+        ensures { self.new ≡ script_begun kind self.old }
     {
         if matches!(self.mode, Mode::Start | Mode::Over) {
             self.begin_first(kind);

@@ -3,7 +3,7 @@ use Rattle.std.proofs.Common.{◌≡◌, ℕ, Bool, true, false, List, ◌++◌,
 use Rattle.std.proofs.lemmas.Str.{is_utf8-from_IsUtf8, IsUtf8-from_is_utf8}
 use Rattle.std.specs.Str.{chars, is_utf8}
 use Rattle.ttree_columns.specs.Columns.{is_wider, start}
-use Rattle.ttree_terminal.specs.Columns.{cut_at, cut_mark, kept, line_end, reset}
+use Rattle.ttree_terminal.specs.Columns.{cut_at, cut_mark, kept_columns, kept_line_end, reset}
 
 -- bytes that aren't UTF-8 aren't cut
 pub uncut : (width : ℕ) (line : List ℕ) → ¬ (IsUtf8 line) → line ≡ cut_at width line
@@ -18,7 +18,7 @@ pub unchanged : (width : ℕ) (line : List ℕ) → IsUtf8 line → is_wider wid
 unchanged width line text narrow = rw narrow (rw (is_utf8-from_IsUtf8 line text) refl)
 
 pub cut_made : (width : ℕ) (line made : List ℕ) → IsUtf8 line → is_wider width start (chars line) ≡ true →
-    made ≡ (kept width line ++ (cut_mark ++ reset (kept width line))) ++ line_end line → made ≡ cut_at width line
+    made ≡ (kept_columns width line ++ (cut_mark ++ reset (kept_columns width line))) ++ kept_line_end line → made ≡ cut_at width line
 cut_made width line made text wide e =
     rw wide (rw (is_utf8-from_IsUtf8 line text)
-    (e ∙ ap (λ l. l ++ line_end line) (sym (append_assoc (kept width line) cut_mark (reset (kept width line))))))
+    (e ∙ ap (λ l. l ++ kept_line_end line) (sym (append_assoc (kept_columns width line) cut_mark (reset (kept_columns width line))))))

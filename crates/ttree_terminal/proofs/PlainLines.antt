@@ -8,13 +8,13 @@ use Rattle.std.proofs.KnownBytes.{Appends-kept}
 use Rattle.std.specs.Io.KnownBytes.{Keeps}
 use Rattle.std.specs.Str.{chars, encode_utf8_all, is_utf8}
 use Rattle.std.specs.Str.Lossy.{utf8_lossy}
-use Rattle.ttree_source.specs.Calls.{is_escaped, shown, shown_char}
+use Rattle.ttree_source.specs.Calls.{is_escaped, shown_char, shown_text}
 use Rattle.ttree_columns.proofs.Fitted.{fitting_part}
 use Rattle.ttree_columns.specs.Columns.{fitting, is_wider, start}
 use Rattle.ttree_terminal.specs.declared.shaping.Shaping.{Shaping}
 use Rattle.ttree_terminal.specs.Plain.{is_c1, is_control, plain_after, GrowsPlain}
-use Rattle.ttree_terminal.specs.Columns.{cut_at, cut_mark, has_byte, kept, line_end, reset}
-use Rattle.ttree_terminal.specs.Lines.{cut_to, ended, ended_by, escaped, held_after, shaped}
+use Rattle.ttree_terminal.specs.Columns.{cut_at, cut_mark, has_byte, kept_columns, kept_line_end, reset}
+use Rattle.ttree_terminal.specs.Lines.{cut_to, ended_by, escaped_line, held_after, lines_ended, shaped}
 use Rattle.ttree_terminal.specs.Writing.{WritesOrPart}
 
 -- ---- bytes
@@ -161,28 +161,29 @@ all_shown (c ∷ cs) = joined 194 (shown_char c) (flat_map shown_char cs) (one_s
 
 -- ---- lines
 
-kept_plain : (width : ℕ) (line : List ℕ) → IsUtf8 line → plain_after 194 line ≡ true → plain_after 194 (kept width line) ≡ true
+kept_plain : (width : ℕ) (line : List ℕ) → IsUtf8 line → plain_after 194 line ≡ true → plain_after 194 (kept_columns width line) ≡ true
 kept_plain width line text h =
     let (rest, e) = fitting_part width start (chars line) in
     let first = fitting width start (chars line) in
-    let whole : line ≡ kept width line ++ encode_utf8_all rest =
+    let whole : line ≡ kept_columns width line ++ encode_utf8_all rest =
     sym (encodes-chars line text) ∙ ap encode_utf8_all e ∙ encodes-append first rest in
-    first_part 194 (kept width line) (encode_utf8_all rest) (subst (λ l. plain_after 194 l ≡ true) whole h)
+    first_part 194 (kept_columns width line) (encode_utf8_all rest) (subst (λ l. plain_after 194 l ≡ true) whole h)
 
 reset_plain : (bytes : List ℕ) → plain_after 194 bytes ≡ true → plain_after 194 (reset bytes) ≡ true
 reset_plain bytes h = either (has_byte 27 bytes) _ _ (λ e. absurd (false≢true (sym (no_escape 194 bytes h) ∙ e))) (λ _. refl)
 
-line_end_plain : (line : List ℕ) → plain_after 194 (line_end line) ≡ true
+line_end_plain : (line : List ℕ) → plain_after 194 (kept_line_end line) ≡ true
 line_end_plain line = either (has_byte 10 line) _ _ (λ _. refl) (λ _. refl)
 
 cut_plain : (width : ℕ) (line : List ℕ) → plain_after 194 line ≡ true → plain_after 194 (cut_at width line) ≡ true
 cut_plain width line h =
-    either (is_utf8 line && is_wider width start (chars line)) (kept width line ++ cut_mark ++ reset (kept width line) ++ line_end line) line
+    either (is_utf8 line && is_wider width start (chars line)) (kept_columns width line ++ cut_mark ++ reset (kept_columns width line) ++ kept_line_end line) line
     (λ e.
     let text = IsUtf8-from_is_utf8 line (and_parts (is_utf8 line) (is_wider width start (chars line)) e).0 in
     let first = kept_plain width line text h in
-    joined 194 (kept width line ++ cut_mark ++ reset (kept width line)) (line_end line)
-    (joined 194 (kept width line ++ cut_mark) (reset (kept width line)) (joined 194 (kept width line) cut_mark first refl) (reset_plain (kept width line) first))
+    joined 194 (kept_columns width line ++ cut_mark ++ reset (kept_columns width line))
+    (kept_line_end line)
+    (joined 194 (kept_columns width line ++ cut_mark) (reset (kept_columns width line)) (joined 194 (kept_columns width line) cut_mark first refl) (reset_plain (kept_columns width line) first))
     (line_end_plain line))
     (λ _. h)
 
@@ -190,18 +191,18 @@ cut_to_plain : (width : Option ℕ) (line : List ℕ) → plain_after 194 line �
 cut_to_plain None line h = h
 cut_to_plain (Some width) line h = either (width == 0) line (cut_at width line) (λ _. h) (λ _. cut_plain width line h)
 
-escaped_plain : (line : List ℕ) → plain_after 194 (escaped line) ≡ true
-escaped_plain line = either (plain_after 194 line) line (shown (utf8_lossy line)) (λ e. e) (λ _. all_shown (chars (utf8_lossy line)))
+escaped_plain : (line : List ℕ) → plain_after 194 (escaped_line line) ≡ true
+escaped_plain line = either (plain_after 194 line) line (shown_text (utf8_lossy line)) (λ e. e) (λ _. all_shown (chars (utf8_lossy line)))
 
 shaped_plain : (shaping : Shaping) (line : List ℕ) → IsTrue shaping.is_escaped → plain_after 194 (shaped shaping line) ≡ true
 shaped_plain shaping line on =
-    cut_to_plain shaping.width (if shaping.is_escaped then escaped line else line)
-    (either shaping.is_escaped (escaped line) line (λ _. escaped_plain line) (λ e. absurd (false≢true (sym e ∙ on))))
+    cut_to_plain shaping.width (if shaping.is_escaped then escaped_line line else line)
+    (either shaping.is_escaped (escaped_line line) line (λ _. escaped_plain line) (λ e. absurd (false≢true (sym e ∙ on))))
 
-ended_plain : (shaping : Shaping) (held bytes : List ℕ) → IsTrue shaping.is_escaped → plain_after 194 (ended shaping held bytes) ≡ true
+ended_plain : (shaping : Shaping) (held bytes : List ℕ) → IsTrue shaping.is_escaped → plain_after 194 (lines_ended shaping held bytes) ≡ true
 ended_plain shaping held [] on = refl
 ended_plain shaping held (byte ∷ bytes) on =
-    joined 194 (ended_by shaping held byte) (ended shaping (held_after held byte) bytes)
+    joined 194 (ended_by shaping held byte) (lines_ended shaping (held_after held byte) bytes)
     (either (byte == 10) (shaped shaping (held ++ byte ∷ [])) [] (λ _. shaped_plain shaping (held ++ byte ∷ []) on) (λ _. refl))
     (ended_plain shaping (held_after held byte) bytes on)
 
@@ -216,8 +217,8 @@ grows bytes (Err error) old new h (part, rest, e, written) =
 pub grows_and_stays : (old middle new : Option (List ℕ)) → GrowsPlain old middle → Keeps middle new → GrowsPlain old new
 grows_and_stays old middle new (bytes, written, plain) kept = (bytes, Appends-kept old middle new bytes written kept, plain)
 
-pub ended_grows : {A E : Type 0} (shaping : Shaping) (held bytes : List ℕ) (result : Result A E) (old new : Option (List ℕ)) → IsTrue shaping.is_escaped → WritesOrPart (ended shaping held bytes) result old new → GrowsPlain old new
-ended_grows shaping held bytes result old new on written = grows (ended shaping held bytes) result old new (ended_plain shaping held bytes on) written
+pub ended_grows : {A E : Type 0} (shaping : Shaping) (held bytes : List ℕ) (result : Result A E) (old new : Option (List ℕ)) → IsTrue shaping.is_escaped → WritesOrPart (lines_ended shaping held bytes) result old new → GrowsPlain old new
+ended_grows shaping held bytes result old new on written = grows (lines_ended shaping held bytes) result old new (ended_plain shaping held bytes on) written
 
 pub shaped_grows : {A E : Type 0} (shaping : Shaping) (line : List ℕ) (result : Result A E) (old new : Option (List ℕ)) → IsTrue shaping.is_escaped → WritesOrPart (shaped shaping line) result old new → GrowsPlain old new
 shaped_grows shaping line result old new on written = grows (shaped shaping line) result old new (shaped_plain shaping line on) written

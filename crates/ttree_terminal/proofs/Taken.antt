@@ -4,7 +4,7 @@ use Rattle.memchr.specs.Find.{IsFirstByte, is_byte}
 use Rattle.ttree_terminal.specs.declared.shaping.Shaping.{Shaping}
 use Rattle.std.proofs.KnownBytes.{Appends-kept}
 use Rattle.std.specs.Io.KnownBytes.{Appends, Keeps}
-use Rattle.ttree_terminal.specs.Lines.{ended, left, shaped}
+use Rattle.ttree_terminal.specs.Lines.{held_after_bytes, lines_ended, shaped}
 use Rattle.ttree_terminal.specs.Writing.{EndsFirstLine, WritesOrPart}
 
 not_true : (b : Bool) → ¬ (b ≡ true) → b ≡ false
@@ -13,8 +13,9 @@ not_true false none = refl
 
 -- a line and what follows it
 pub record EndsLine (shaping : Shaping) (held bytes line rest : List ℕ) : Type 0 where
-  pub lines : ended shaping held bytes ≡ shaped shaping (held ++ line) ++ ended shaping [] rest
-  pub rest_held : left held bytes ≡ left [] rest
+  pub lines : lines_ended shaping held bytes ≡ shaped shaping (held ++ line)
+      ++ lines_ended shaping [] rest
+  pub rest_held : held_after_bytes held bytes ≡ held_after_bytes [] rest
 
 ends_at : (shaping : Shaping) (bytes held : List ℕ) (i : ℕ) → i < length bytes → ((k : ℕ) → k < i → (get_or bytes k 0 == 10) ≡ false) → (get_or bytes i 0 == 10) ≡ true →
     EndsLine shaping held bytes (take (suc i) bytes) (drop (suc i) bytes)
@@ -28,7 +29,7 @@ ends_at shaping (b ∷ bytes) held (suc i) inside none here =
     let more = ends_at shaping bytes (held ++ b ∷ []) i (omega (arith, inside)) (λ k lt. none (suc k) (omega (arith, lt))) here in
     record {
       lines = rw other (more.lines
-          ∙ ap (λ l. shaped shaping l ++ ended shaping [] (drop (suc i) bytes)) (append_assoc held (b ∷ []) (take (suc i) bytes)));
+          ∙ ap (λ l. shaped shaping l ++ lines_ended shaping [] (drop (suc i) bytes)) (append_assoc held (b ∷ []) (take (suc i) bytes)));
       rest_held = rw other more.rest_held;
     }
 
@@ -52,8 +53,8 @@ ends_nowhere bytes none = λ k lt. not_true (get_or bytes k 0 == 10) (none k (om
 
 -- bytes without a line end
 pub record EndsNone (shaping : Shaping) (held bytes : List ℕ) : Type 0 where
-  pub lines : ended shaping held bytes ≡ []
-  pub rest_held : left held bytes ≡ held ++ bytes
+  pub lines : lines_ended shaping held bytes ≡ []
+  pub rest_held : held_after_bytes held bytes ≡ held ++ bytes
 
 none_at : (shaping : Shaping) (bytes held : List ℕ) → ((k : ℕ) → k < length bytes → (get_or bytes k 0 == 10) ≡ false) → EndsNone shaping held bytes
 none_at shaping [] held none = record { lines = refl; rest_held = sym (append-nil held) }

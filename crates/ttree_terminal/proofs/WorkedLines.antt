@@ -9,7 +9,7 @@ use Rattle.unicode_width.specs.Width.{char_width}
 use Rattle.ttree_terminal.specs.declared.shaping.Shaping.{Shaping}
 use Rattle.ttree_terminal.specs.Plain.{IsPlain, plain_after}
 use Rattle.ttree_terminal.specs.Columns.{cut_mark}
-use Rattle.ttree_terminal.specs.Lines.{ended, left, shaped}
+use Rattle.ttree_terminal.specs.Lines.{held_after_bytes, lines_ended, shaped}
 
 -- ---- plain bytes
 
@@ -79,8 +79,8 @@ not_cut = refl
 
 -- ---- lines and what is left
 
-two_lines : ended escaped_only (codes "a") (codes "b\nc\nd") ≡ codes "ab\nc\n"
+two_lines : lines_ended escaped_only (codes "a") (codes "b\nc\nd") ≡ codes "ab\nc\n"
 two_lines = refl
 
-last_line : left (codes "a") (codes "b\nc\nd") ≡ codes "d"
+last_line : held_after_bytes (codes "a") (codes "b\nc\nd") ≡ codes "d"
 last_line = refl

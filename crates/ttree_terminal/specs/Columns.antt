@@ -17,15 +17,16 @@ abbrev pub reset : List ℕ → List ℕ
 reset kept = if has_byte 27 kept then 27 ∷ codes "[0m" else []
 
 -- the line end, if there is one
-abbrev pub line_end : List ℕ → List ℕ
-line_end line = if has_byte 10 line then 10 ∷ [] else []
+abbrev pub kept_line_end : List ℕ → List ℕ
+kept_line_end line = if has_byte 10 line then 10 ∷ [] else []
 
 -- the first characters of a line, which leave a column for the mark
-abbrev pub kept : ℕ → List ℕ → List ℕ
-kept width line = encode_utf8_all (fitting width start (chars line))
+abbrev pub kept_columns : ℕ → List ℕ → List ℕ
+kept_columns width line = encode_utf8_all (fitting width start (chars line))
 
 -- A line cut at this many columns. A line that isn't UTF-8 isn't cut.
 abbrev pub cut_at : ℕ → List ℕ → List ℕ
 cut_at width line =
     if is_utf8 line && is_wider width start (chars line)
-    then kept width line ++ cut_mark ++ reset (kept width line) ++ line_end line else line
+    then kept_columns width line ++ cut_mark ++ reset (kept_columns width line)
+    ++ kept_line_end line else line

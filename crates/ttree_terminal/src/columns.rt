@@ -2,7 +2,7 @@
 
 ghost use Rattle.std.specs.Prelude.{◌≡◌, ◌++◌, IfOk, OnOk, string_bytes};
 ghost use Rattle.std.specs.Option.{option_map_or};
-ghost use Rattle.ttree_terminal.specs.Columns.{cut_at, cut_mark, line_end, reset};
+ghost use Rattle.ttree_terminal.specs.Columns.{cut_at, cut_mark, kept_line_end, reset};
 
 use std::alloc::{AllocError, Global};
 use std::str::from_utf8;
@@ -58,7 +58,7 @@ fn push_mark(out: &mut String) -> Result<(), AllocError>
 
 // Appends the line end of a line, if it has one.
 fn push_line_end(out: &mut String, line: &str) -> Result<(), AllocError>
-    ensures { OnOk result (string_bytes out.new ≡ string_bytes out.old ++ line_end line.now) }
+    ensures { OnOk result (string_bytes out.new ≡ string_bytes out.old ++ kept_line_end line.now) }
 {
     if line.as_bytes().contains(&b'\n') {
         out.push_str("\n")

@@ -2,7 +2,7 @@
 
 ghost use Rattle.std.specs.Prelude.{◌≡◌, ◌++◌, ◌<◌, ◌≤◌, [], IfOk, IsTrue, OnErr, OnOk, length, take};
 ghost use Rattle.std.specs.Io.KnownBytes.{Appends, Keeps};
-ghost use Rattle.ttree_terminal.specs.Lines.{ended, is_shaping, left, shaped};
+ghost use Rattle.ttree_terminal.specs.Lines.{held_after_bytes, is_shaping, lines_ended, shaped};
 ghost use Rattle.ttree_terminal.specs.Plain.{GrowsPlain};
 ghost use Rattle.ttree_terminal.specs.Writing.{EndsFirstLine, WritesOrPart};
 
@@ -44,10 +44,10 @@ impl<W: Write> Write for Shaped<W> {
         ensures bound { WritesAtMost result buf.now }
         ensures bytes { WriteAppends None None result buf.now }
         ensures written { IsTrue (is_shaping self.old.shaping) →
-            WritesOrPart (ended self.old.shaping self.old.held buf.now) result
+            WritesOrPart (lines_ended self.old.shaping self.old.held buf.now) result
             (W.contents self.old.writer) (W.contents self.new.writer) }
         ensures held { IsTrue (is_shaping self.old.shaping) →
-            OnOk result (self.new.held ≡ left self.old.held buf.now) }
+            OnOk result (self.new.held ≡ held_after_bytes self.old.held buf.now) }
         ensures whole { IsTrue (is_shaping self.old.shaping) →
             IfOk result (λ n. n ≡ length buf.now) }
         ensures passed { is_shaping self.old.shaping ≡ false →
@@ -113,9 +113,9 @@ impl<W: Write> Shaped<W> {
     /// fails. A first part of the lines was written then.
     #[tactic(auto, using(crate::proofs::PlainLines::ended_grows))]
     pub fn take(&mut self, bytes: &[u8]) -> io::Result<()>
-        ensures written { WritesOrPart (ended self.old.shaping self.old.held bytes.now) result
+        ensures written { WritesOrPart (lines_ended self.old.shaping self.old.held bytes.now) result
             (W.contents self.old.writer) (W.contents self.new.writer) }
-        ensures held { OnOk result (self.new.held ≡ left self.old.held bytes.now) }
+        ensures held { OnOk result (self.new.held ≡ held_after_bytes self.old.held bytes.now) }
         ensures plain { IsTrue self.old.shaping.is_escaped →
             GrowsPlain (W.contents self.old.writer) (W.contents self.new.writer) }
         ensures same { self.new.shaping ≡ self.old.shaping }
@@ -125,9 +125,9 @@ impl<W: Write> Shaped<W> {
 
     // Takes bytes, and writes the lines that they end.
     fn take_lines(&mut self, bytes: &[u8]) -> io::Result<()>
-        ensures written { WritesOrPart (ended self.old.shaping self.old.held bytes.now) result
+        ensures written { WritesOrPart (lines_ended self.old.shaping self.old.held bytes.now) result
             (W.contents self.old.writer) (W.contents self.new.writer) }
-        ensures held { OnOk result (self.new.held ≡ left self.old.held bytes.now) }
+        ensures held { OnOk result (self.new.held ≡ held_after_bytes self.old.held bytes.now) }
         ensures same { self.new.shaping ≡ self.old.shaping }
     {
         let mut rest = bytes;

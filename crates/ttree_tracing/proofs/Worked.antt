@@ -5,18 +5,18 @@ use Rattle.tracing_tree_spans.specs.Registry.Ids.{id_of}
 use Rattle.tracing_tree_base.specs.declared.field.Field.{Field}
 use Rattle.tracing_tree_base.specs.declared.style.Level.TheVariants.{Error, Info}
 use Rattle.ttree_source.specs.Calls.{close_call, event_call, message_field, record_call, span_call}
-use Rattle.ttree_tracing.specs.Tracing.{TracingState, ended, nothing_open, parent_found, plain_emitted, reached, tracing_ends}
-use Rattle.ttree_tracing.specs.TracingLine.{bare_thread, kind_of}
+use Rattle.ttree_tracing.specs.Tracing.{TracingState, live_span_ended, nothing_open, parent_found, plain_emitted, reached, tracing_ends}
+use Rattle.ttree_tracing.specs.TracingLine.{bare_thread, kind_by_message}
 use Rattle.ttree_tracing.specs.declared.tracing.line.Listed.{Listed}
 use Rattle.ttree_tracing.specs.declared.tracing.line.Kind.TheVariants.{Event, Enter, New}
 
-pub new_opens_a_span : kind_of (record { name = codes "message"; value = codes "new" } ∷ []) false ≡ New
+pub new_opens_a_span : kind_by_message (record { name = codes "message"; value = codes "new" } ∷ []) false ≡ New
 new_opens_a_span = refl
 
-pub new_by_chance : kind_of (record { name = codes "message"; value = codes "new" } ∷ []) true ≡ Event
+pub new_by_chance : kind_by_message (record { name = codes "message"; value = codes "new" } ∷ []) true ≡ Event
 new_by_chance = refl
 
-pub enter_is_emitted_in_the_span : kind_of (record { name = codes "message"; value = codes "enter" } ∷ []) true ≡ Enter
+pub enter_is_emitted_in_the_span : kind_by_message (record { name = codes "message"; value = codes "enter" } ∷ []) true ≡ Enter
 enter_is_emitted_in_the_span = refl
 
 pub a_thread_by_its_number : bare_thread (codes "ThreadId(12)") ≡ codes "12"
@@ -72,7 +72,7 @@ module _ (moment : Moment) where
   pub it_is_recorded_once : (reached 1 [] (order_with_rows ∷ []) None after_rows).state.calls ≡ []
   it_is_recorded_once = refl
 
-  pub a_close_shows_it : (ended Info (close_field ∷ []) (id_of 1) after_rows).calls
+  pub a_close_shows_it : (live_span_ended Info (close_field ∷ []) (id_of 1) after_rows).calls
       ≡ event_call moment Info (close_field ∷ rows_field ∷ []) (Some (id_of 1))
       ∷ close_call moment (id_of 1) None ∷ []
   a_close_shows_it = refl

@@ -21,7 +21,7 @@ use Rattle.ttree_source.specs.Moments.{moment_after}
 use Rattle.ttree_source.specs.Calls.{all_on_thread, close_call, event_call, record_call, span_call}
 use Rattle.ttree_source.specs.Levels.{level_in}
 use Rattle.ttree_source.specs.Traces.{plain_event}
-use Rattle.ttree_tracing.specs.TracingLine.{kind_in, label_in, line_fields, may_be, parent_in, path_in, span_in, thread_in}
+use Rattle.ttree_tracing.specs.TracingLine.{label_in, line_fields, line_kind, listed_span, may_be, parent_in, path_in, thread_in}
 use Rattle.ttree_tracing.specs.declared.tracing.Live.{Live}
 use Rattle.ttree_tracing.specs.declared.tracing.line.Listed.{Listed}
 use Rattle.ttree_tracing.specs.declared.tracing.line.Kind.{Kind}
@@ -49,11 +49,12 @@ nothing_open next moment = record {
   calls = [];
 }
 
-abbrev pub emitted : Call → TracingState → TracingState
-emitted call s = record s { calls = s.calls ++ call ∷ [] }
+abbrev pub tracing_call_emitted : Call → TracingState → TracingState
+tracing_call_emitted call s = record s { calls = s.calls ++ call ∷ [] }
 
-abbrev pub event_emitted : Level → List Field → Option Id → TracingState → TracingState
-event_emitted level fields parent s = emitted (event_call s.moment level fields parent) s
+abbrev pub tracing_event_emitted : Level → List Field → Option Id → TracingState → TracingState
+tracing_event_emitted level fields parent s =
+    tracing_call_emitted (event_call s.moment level fields parent) s
 
 -- ---- which span is meant
 
@@ -70,12 +71,12 @@ is_child parent listed one = same_above one.parent parent && may_be listed one.f
 abbrev pub is_child_of_thread : Option Id → List ℕ → Live → Bool
 is_child_of_thread parent thread one = same_above one.parent parent && bytes_eq one.thread thread
 
-abbrev pub id_in : Live → Id
-id_in one = one.id
+abbrev pub live_id : Live → Id
+live_id one = one.id
 
 -- the newest of the spans that pass
 abbrev pub newest : (Live → Bool) → List Live → Option Id
-newest is live = option_map id_in (find is (reverse live))
+newest is live = option_map live_id (find is (reverse live))
 
 abbrev pub child : List Live → Option Id → Listed → Option Id
 child live parent listed = newest (is_child parent listed) live
@@ -101,12 +102,12 @@ abbrev pub is_span : Id → Live → Bool
 is_span id one = same_id one.id id
 
 -- the span with this id, if it is live
-abbrev pub span_of : List Live → Id → Option Live
-span_of live id = find (is_span id) live
+abbrev pub live_span : List Live → Id → Option Live
+live_span live id = find (is_span id) live
 
 -- this id if its span is live
 abbrev pub if_live : Option Id → List Live → Option Id
-if_live (Some id) live = option_map id_in (span_of live id)
+if_live (Some id) live = option_map live_id (live_span live id)
 if_live None live = None
 
 -- ---- fields that are recorded late
@@ -126,14 +127,14 @@ unknown_in one (field ∷ others) = if_unknown one field ++ unknown_in one other
 
 -- the fields of an entry that aren't known of the span with this id
 abbrev pub late_in : Id → Listed → List Live → List Field
-late_in id listed live = of_span (span_of live id) where
+late_in id listed live = of_span (live_span live id) where
   of_span : Option Live → List Field
   of_span (Some one) = unknown_in one listed.fields
   of_span None = []
 
 -- the fields of a span that were recorded late
 abbrev pub late_of : Id → List Live → List Field
-late_of id live = of_span (span_of live id) where
+late_of id live = of_span (live_span live id) where
   of_span : Option Live → List Field
   of_span (Some one) = one.late
   of_span None = []
@@ -145,7 +146,7 @@ with_late id late one = if same_id one.id id then record one { late = one.late +
 -- these fields are recorded, if there are any
 abbrev pub learned : Id → List Field → TracingState → TracingState
 learned id [] s = s
-learned id (field ∷ others) s = record (emitted (record_call id (field ∷ others)) s) {
+learned id (field ∷ others) s = record (tracing_call_emitted (record_call id (field ∷ others)) s) {
   live = map (with_late id (field ∷ others)) s.live;
 }
 
@@ -175,7 +176,7 @@ parted_one one gone s =
     if goes_with one gone
     then record {
       gone = gone ++ one.id ∷ [];
-      state = emitted (close_call s.moment one.id one.parent) s;
+      state = tracing_call_emitted (close_call s.moment one.id one.parent) s;
     }
     else record { gone = gone; state = record s { live = s.live ++ one ∷ [] } }
 
@@ -186,8 +187,8 @@ parted (one ∷ others) gone s =
     parted others next.gone next.state
 
 -- a span closes with all live spans in it
-abbrev pub closed : Id → TracingState → TracingState
-closed id s = parted s.live (id ∷ []) (record s { live = [] })
+abbrev pub live_span_closed : Id → TracingState → TracingState
+live_span_closed id s = parted s.live (id ∷ []) (record s { live = [] })
 
 -- ---- the path to a span
 
@@ -207,10 +208,10 @@ lives is_emitted thread listed parent id = record {
 }
 
 -- a span opens
-abbrev pub opened : Bool → List ℕ → Listed → Option Id → TracingState → Place
-opened emitted_by_new thread listed parent s = record {
+abbrev pub live_span_opened : Bool → List ℕ → Listed → Option Id → TracingState → Place
+live_span_opened emitted_by_new thread listed parent s = record {
   at = Some (id_of s.next);
-  state = record (emitted (span_call s.moment listed.name listed.fields parent) s) {
+  state = record (tracing_call_emitted (span_call s.moment listed.name listed.fields parent) s) {
     next = one_more s.next;
     live = s.live ++ (lives emitted_by_new thread listed parent (id_of s.next)) ∷ [];
   };
@@ -240,16 +241,17 @@ spared depth s =
     else record s { live = without (position is_pending s.live) s.live }
 
 -- A span opens that no `new` reported. Nothing closes: the log never said so.
-abbrev pub begun : ℕ → List ℕ → Listed → Option Id → TracingState → Place
-begun depth thread listed parent s = opened false thread listed parent (spared depth s)
+abbrev pub unreported_opened : ℕ → List ℕ → Listed → Option Id → TracingState → Place
+unreported_opened depth thread listed parent s =
+    live_span_opened false thread listed parent (spared depth s)
 
 abbrev pub at_or_begun : Option Id → ℕ → List ℕ → Listed → Option Id → TracingState → Place
 at_or_begun (Some id) depth thread listed parent s = record { at = Some id; state = s }
-at_or_begun None depth thread listed parent s = begun depth thread listed parent s
+at_or_begun None depth thread listed parent s = unreported_opened depth thread listed parent s
 
 -- the span of an entry in the one above
-abbrev pub stepped : ℕ → List ℕ → Listed → Option Id → TracingState → Place
-stepped depth thread listed parent s =
+abbrev pub entry_stepped : ℕ → List ℕ → Listed → Option Id → TracingState → Place
+entry_stepped depth thread listed parent s =
     let id = child s.live parent listed in
     at_or_begun id depth thread listed parent (met id listed s)
 
@@ -257,7 +259,7 @@ stepped depth thread listed parent s =
 abbrev pub reached : ℕ → List ℕ → List Listed → Option Id → TracingState → Place
 reached depth thread [] parent s = record { at = parent; state = s }
 reached depth thread (listed ∷ others) parent s =
-    let next = stepped depth thread listed parent s in
+    let next = entry_stepped depth thread listed parent s in
     reached depth thread others next.at next.state
 
 -- the newest span that an entry may be; a root opens if there is no such span
@@ -280,15 +282,16 @@ located kind value s =
 -- the fields of a span's close, if there is more to show than the message
 abbrev pub times_emitted : Level → List Field → Id → TracingState → TracingState
 times_emitted level fields id s =
-    if nat_lt 1 (length fields) then event_emitted level fields (Some id) s else s
+    if nat_lt 1 (length fields) then tracing_event_emitted level fields (Some id) s else s
 
 -- a span ends: an event shows its times and its late fields, if there are any, and it closes
-abbrev pub ended : Level → List Field → Id → TracingState → TracingState
-ended level fields id s = closed id (times_emitted level (fields ++ late_of id s.live) id s)
+abbrev pub live_span_ended : Level → List Field → Id → TracingState → TracingState
+live_span_ended level fields id s =
+    live_span_closed id (times_emitted level (fields ++ late_of id s.live) id s)
 
 abbrev pub at_or_opened : Option Id → List ℕ → Listed → Option Id → TracingState → Place
 at_or_opened (Some id) thread listed parent s = record { at = Some id; state = s }
-at_or_opened None thread listed parent s = opened false thread listed parent s
+at_or_opened None thread listed parent s = live_span_opened false thread listed parent s
 
 -- The span of an entry, whose close is reported: the one in the span above, otherwise one
 -- elsewhere. It opens if there is no such span.
@@ -298,7 +301,7 @@ closing thread listed parent s =
     at_or_opened id thread listed parent (met id listed s)
 
 abbrev pub ended_if : Level → List Field → Option Id → TracingState → TracingState
-ended_if level fields (Some id) s = ended level fields id s
+ended_if level fields (Some id) s = live_span_ended level fields id s
 ended_if level fields None s = s
 
 abbrev pub close_of : Level → List Field → Option Listed → List ℕ → Option Id → TracingState →
@@ -311,14 +314,14 @@ close_of level fields None thread parent s =
 
 abbrev pub close_emitted : Level → List Field → Json → Option Id → TracingState → TracingState
 close_emitted level fields value parent s =
-    close_of level fields (span_in value) (thread_in value) parent s
+    close_of level fields (listed_span value) (thread_in value) parent s
 
 abbrev pub new_of : Option Listed → List ℕ → Option Id → TracingState → TracingState
-new_of (Some listed) thread parent s = (opened true thread listed parent s).state
+new_of (Some listed) thread parent s = (live_span_opened true thread listed parent s).state
 new_of None thread parent s = s
 
 abbrev pub new_emitted : Json → Option Id → TracingState → TracingState
-new_emitted value parent s = new_of (span_in value) (thread_in value) parent s
+new_emitted value parent s = new_of (listed_span value) (thread_in value) parent s
 
 -- ---- lines
 
@@ -335,7 +338,8 @@ recorded_in at calls = flat_map (recorded_of at) calls
 -- for the first time isn't lost if no line closes the span.
 abbrev pub acted_as : Kind → Level → List Field → Json → Place → TracingState
 acted_as Event level fields value place =
-    event_emitted level (fields ++ recorded_in place.at place.state.calls) place.at place.state
+    tracing_event_emitted level (fields ++ recorded_in place.at place.state.calls)
+    place.at place.state
 acted_as New level fields value place = new_emitted value place.at place.state
 acted_as Enter level fields value place = place.state
 acted_as Exit level fields value place = place.state
@@ -348,7 +352,7 @@ arrived place = record place { state = record place.state { at = place.at } }
 abbrev pub acted : Level → Json → TracingState → TracingState
 acted level value s =
     let fields = line_fields value in
-    let kind = kind_in fields value in
+    let kind = line_kind fields value in
     acted_as kind level fields value (arrived (located kind value s))
 
 abbrev pub handed_out : TracingState → Step TracingState
@@ -358,20 +362,21 @@ handed_out s = record {
 }
 
 -- a line happens at its own time, on its own thread
-abbrev pub placed : Json → TracingState → TracingState
-placed value s = record s {
+abbrev pub at_line_place : Json → TracingState → TracingState
+at_line_place value s = record s {
   moment = moment_after (text_at (codes "timestamp") value) s.moment;
   thread_shown = label_in value;
 }
 
 abbrev pub takes_value : Json → TracingState → Option (Step TracingState)
-takes_value value s = option_map (λ level. handed_out (acted level value (placed value s)))
+takes_value value s = option_map (λ level. handed_out (acted level value (at_line_place value s)))
     (level_in value)
 
 -- a line that isn't a JSON object is an event in the last span of the line before it
 abbrev pub plain_emitted : List ℕ → TracingState → TracingState
 plain_emitted line s =
-    if is_skipped line then s else emitted (plain_event s.moment line (if_live s.at s.live)) s
+    if is_skipped line then s
+    else tracing_call_emitted (plain_event s.moment line (if_live s.at s.live)) s
 
 -- what a line means
 abbrev pub tracing_takes : TracingState → List ℕ → Option Json → Option (Step TracingState)

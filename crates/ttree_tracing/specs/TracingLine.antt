@@ -6,9 +6,9 @@ use Rattle.json.specs.Find.{get, as_object}
 use Rattle.tracing_tree_base.specs.Equal.{field_eq, fields_eq}
 use Rattle.tracing_tree_base.specs.declared.field.Field.{Field}
 use Rattle.ttree_source.specs.Marks.{after_mark}
-use Rattle.ttree_source.specs.Fields.{event_fields, fields_besides}
+use Rattle.ttree_source.specs.Fields.{fields_besides, object_fields}
 use Rattle.ttree_source.specs.Values.{array_at, text_at}
-use Rattle.ttree_source.specs.Calls.{shown}
+use Rattle.ttree_source.specs.Calls.{shown_text}
 use Rattle.ttree_tracing.specs.declared.tracing.line.Listed.{Listed}
 use Rattle.ttree_tracing.specs.declared.tracing.line.Kind.{Kind}
 use Rattle.ttree_tracing.specs.declared.tracing.line.Kind.TheVariants.{Event as AnEvent, New, Enter, Exit, Close}
@@ -31,7 +31,7 @@ object_at key value = if_object (get key value) where
 abbrev pub line_fields : Json → List Field
 line_fields value = at_fields (object_at (codes "fields") value) where
   at_fields : Option Json → List Field
-  at_fields (Some fields) = event_fields fields
+  at_fields (Some fields) = object_fields fields
   at_fields None = fields_besides line_keys value
 
 -- the thread of a line, or an empty string if the line doesn't name it
@@ -50,9 +50,9 @@ bare_thread text = inside (after_mark (codes "ThreadId(") text) where
 
 -- how a thread is shown: its number and its name, as far as the line has them
 abbrev pub thread_label : Option (List ℕ) → Option (List ℕ) → Option (List ℕ)
-thread_label (Some id) (Some name) = Some (shown (bare_thread id ++ codes ":" ++ name))
-thread_label (Some id) None = Some (shown (bare_thread id))
-thread_label None (Some name) = Some (shown name)
+thread_label (Some id) (Some name) = Some (shown_text (bare_thread id ++ codes ":" ++ name))
+thread_label (Some id) None = Some (shown_text (bare_thread id))
+thread_label None (Some name) = Some (shown_text name)
 thread_label None None = None
 
 -- how the thread of a line is shown
@@ -73,8 +73,8 @@ items_listed no_items = []
 items_listed (item value others) = listed_of value ∷ items_listed others
 
 -- the current span of a line
-abbrev pub span_in : Json → Option Listed
-span_in value = option_map listed_of (object_at (codes "span") value)
+abbrev pub listed_span : Json → Option Listed
+listed_span value = option_map listed_of (object_at (codes "span") value)
 
 -- the spans that a line lists, the root first
 abbrev pub spans_in : Json → Option (List Listed)
@@ -100,7 +100,7 @@ is_last (Some last) span = lists_same last span
 
 -- the current span is the last of those that are listed
 abbrev pub is_current : Json → Bool
-is_current value = among (span_in value) (spans_in value) where
+is_current value = among (listed_span value) (spans_in value) where
   among : Option Listed → Option (List Listed) → Bool
   among (Some span) (Some spans) = is_last (slice_get spans (length spans - 1)) span
   among (Some span) None = false
@@ -112,36 +112,36 @@ names_span value =
 
 -- ---- kinds of lines
 
-abbrev pub is_message : Field → List ℕ → Bool
-is_message field text = bytes_eq field.name (codes "message") && bytes_eq field.value text
+abbrev pub is_message_with : Field → List ℕ → Bool
+is_message_with field text = bytes_eq field.name (codes "message") && bytes_eq field.value text
 
 -- the fields of the event that reports a close
 abbrev pub is_timed_close : List Field → Bool
 is_timed_close (message ∷ busy ∷ idle ∷ []) =
-    is_message message (codes "close") && bytes_eq busy.name (codes "time.busy")
+    is_message_with message (codes "close") && bytes_eq busy.name (codes "time.busy")
     && bytes_eq idle.name (codes "time.idle")
 is_timed_close _ = false
 
 abbrev pub kind_of_message : Field → Bool → Kind
 kind_of_message message current =
-    if is_message message (codes "enter") then Enter
+    if is_message_with message (codes "enter") then Enter
     else if current then AnEvent
-    else if is_message message (codes "new") then New
-    else if is_message message (codes "exit") then Exit
-    else if is_message message (codes "close") then Close
+    else if is_message_with message (codes "new") then New
+    else if is_message_with message (codes "exit") then Exit
+    else if is_message_with message (codes "close") then Close
     else AnEvent
 
-abbrev pub kind_of : List Field → Bool → Kind
-kind_of (message ∷ []) current = kind_of_message message current
-kind_of _ current = AnEvent
+abbrev pub kind_by_message : List Field → Bool → Kind
+kind_by_message (message ∷ []) current = kind_of_message message current
+kind_by_message _ current = AnEvent
 
 -- What a line means, by its event's fields. If the current span is the last one listed, the span
 -- that opens, closes or is left isn't named, so the line is an event of the current span.
-abbrev pub kind_in : List Field → Json → Kind
-kind_in fields value =
+abbrev pub line_kind : List Field → Json → Kind
+line_kind fields value =
     if not (names_span value) then AnEvent
     else if is_timed_close fields then Close
-    else kind_of fields (is_current value)
+    else kind_by_message fields (is_current value)
 
 -- the spans that a line is in, the root first: those that are listed, otherwise the current one
 abbrev pub path_in : Kind → Json → List Listed
@@ -153,12 +153,12 @@ path_in kind value = listed_or_current (spans_in value) where
 
   listed_or_current : Option (List Listed) → List Listed
   listed_or_current (Some spans) = spans
-  listed_or_current None = current kind (span_in value)
+  listed_or_current None = current kind (listed_span value)
 
 -- the current span, if spans are listed and it isn't the last of them
 abbrev pub other_parent : Json → Option Listed
 other_parent value =
-    if is_none (array_at (codes "spans") value) || is_current value then None else span_in value
+    if is_none (array_at (codes "spans") value) || is_current value then None else listed_span value
 
 -- the span that an event names as its parent
 abbrev pub parent_in : Kind → Json → Option Listed

@@ -4,7 +4,7 @@ ghost use Rattle.std.specs.Prelude.{◌≡◌, ◌++◌, ◌∷◌, [], IfOk, No
 ghost use Rattle.json.specs.Value.{value_view};
 ghost use Rattle.std.specs.List.{list_any};
 ghost use Rattle.tracing_tree_spans.specs.Registry.Ids.{same_id};
-ghost use Rattle.ttree_tracing.specs.Tracing.{acted, anywhere, begun, child, child_of_thread, close_emitted, closed, closing, ended, event_emitted, found, goes_with, if_live, if_unknown, is_child, is_child_of_thread, is_in, is_known, is_pending, late_in, late_of, learned, located, met, new_emitted, nothing_open, opened, parent_found, parted, parted_one, placed, plain_emitted, reached, recorded_in, recorded_of, same_above, span_of, spared, stepped, unknown_in, pending_from, with_late, with_pending};
+ghost use Rattle.ttree_tracing.specs.Tracing.{acted, anywhere, unreported_opened, child, child_of_thread, close_emitted, live_span_closed, closing, live_span_ended, tracing_event_emitted, found, goes_with, if_live, if_unknown, is_child, is_child_of_thread, is_in, is_known, is_pending, late_in, late_of, learned, located, met, new_emitted, nothing_open, live_span_opened, parent_found, parted, parted_one, at_line_place, plain_emitted, reached, recorded_in, recorded_of, same_above, live_span, spared, entry_stepped, unknown_in, pending_from, with_late, with_pending};
 
 mod line;
 
@@ -102,7 +102,7 @@ impl Tracing {
 
     // Advances to the moment and the thread of a line.
     fn place(&mut self, value: &Value<'_>) -> Result<(), AllocError>
-        ensures { OnOk result (self.new ≡ placed (value_view value.now) self.old) }
+        ensures { OnOk result (self.new ≡ at_line_place (value_view value.now) self.old) }
     {
         self.moment = moment_after(text_at(value, "timestamp"), &self.moment);
         self.thread_shown = label_in(self.alloc, value)?;
@@ -188,11 +188,12 @@ impl Tracing {
         thread: &str,
         parent: Option<Id>,
     ) -> Result<Id, AllocError>
-        ensures { IfOk result (λ id. stepped depth thread.now listed parent self.old ≡ record {
-          at =
-              Some id;
-          state = self.new;
-        }) }
+        ensures { IfOk result (λ id. entry_stepped depth thread.now listed parent
+            self.old ≡ record {
+              at =
+                  Some id;
+              state = self.new;
+            }) }
     {
         let id = child(self.live.as_slice(), parent, &listed);
         self.meet(id, &listed)?;
@@ -236,11 +237,12 @@ impl Tracing {
         thread: &str,
         parent: Option<Id>,
     ) -> Result<Id, AllocError>
-        ensures { IfOk result (λ id. begun depth thread.now listed parent self.old ≡ record {
-          at =
-              Some id;
-          state = self.new;
-        }) }
+        ensures { IfOk result (λ id. unreported_opened depth thread.now listed parent
+            self.old ≡ record {
+              at =
+                  Some id;
+              state = self.new;
+            }) }
     {
         self.spare(depth);
         self.open(false, listed, thread, parent)
@@ -267,11 +269,12 @@ impl Tracing {
         thread: &str,
         parent: Option<Id>,
     ) -> Result<Id, AllocError>
-        ensures { IfOk result (λ id. opened is_emitted thread.now listed parent self.old ≡ record {
-          at
-              = Some id;
-          state = self.new;
-        }) }
+        ensures { IfOk result (λ id. live_span_opened is_emitted thread.now listed parent
+            self.old ≡ record {
+              at
+                  = Some id;
+              state = self.new;
+            }) }
     {
         let fields = listed.fields.clone()?;
         let call = span_call(
@@ -300,7 +303,7 @@ impl Tracing {
     // its fields.
     fn emit_event(&mut self, level: Level, fields: Fields, at: Option<Id>) -> Result<(), AllocError>
         ensures { OnOk result (self.new
-            ≡ event_emitted level (fields ++ recorded_in at self.old.calls) at self.old) }
+            ≡ tracing_event_emitted level (fields ++ recorded_in at self.old.calls) at self.old) }
     {
         let mut fields = fields;
         fields.append(recorded_in(self.alloc, at, self.calls.as_slice())?)?;
@@ -314,7 +317,7 @@ impl Tracing {
         fields: Fields,
         parent: Option<Id>,
     ) -> Result<(), AllocError>
-        ensures { OnOk result (self.new ≡ event_emitted level fields parent self.old) }
+        ensures { OnOk result (self.new ≡ tracing_event_emitted level fields parent self.old) }
     {
         let call = event_call(self.alloc, self.moment, level, fields, parent)?;
         Ok(self.calls.push(call)?)
@@ -378,7 +381,7 @@ impl Tracing {
     // Ends a span: records an event with its times and its late fields, if it has any, and closes
     // it.
     fn end(&mut self, level: Level, fields: Fields, id: Id) -> Result<(), AllocError>
-        ensures { OnOk result (self.new ≡ ended level fields id self.old) }
+        ensures { OnOk result (self.new ≡ live_span_ended level fields id self.old) }
     {
         let mut fields = fields;
         fields.append(late_of(self.alloc, id, self.live.as_slice())?)?;
@@ -403,7 +406,7 @@ impl Tracing {
 
     // Closes a span and all live spans in it.
     fn close(&mut self, id: Id) -> Result<(), AllocError>
-        ensures { OnOk result (self.new ≡ closed id self.old) }
+        ensures { OnOk result (self.new ≡ live_span_closed id self.old) }
     {
         let live = self.take_live();
         self.part(live, id)
@@ -578,7 +581,7 @@ impl Source for Tracing {
 
 // Returns the span with this id, if it is live.
 fn span_of(live: &[Live], id: Id) -> Option<&Live>
-    ensures { option_map (λ one. one.now) result ≡ span_of live.now id }
+    ensures { option_map (λ one. one.now) result ≡ live_span live.now id }
 {
     live.iter().find(|one| {
         let one: &Live = one;

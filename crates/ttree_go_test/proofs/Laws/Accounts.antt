@@ -6,8 +6,8 @@ use Rattle.std.specs.Prelude.{◌&&◌, bytes_eq, if◌then◌else◌, is_some, 
 use Rattle.std.specs.Option.{option_map_or}
 use Rattle.ttree_go_test.specs.declared.go_test.running.Running.{Running}
 use Rattle.ttree_go_test.specs.Names.{named}
-use Rattle.ttree_go_test.specs.GoTest.{GoState, Held, Tests, begun, held, holds, kept, owner, started, tests_of}
-use Rattle.ttree_go_test.specs.Printed.{Printed, Shown, line_in, lines_in, shown_message, shown_messages, text_by, text_of}
+use Rattle.ttree_go_test.specs.GoTest.{GoState, Held, Tests, held_test, holds, new_running, owner, started, test_kept, tests_of}
+use Rattle.ttree_go_test.specs.Printed.{Printed, Shown, line_in, lines_in, shown_message, shown_messages, test_text, text_by}
 use Rattle.ttree_go_test.proofs.Laws.Printing.{Cuts, Ends, Finishes, Sends, joined, lines_of_its, none_sent, sent, then_sends, no_other_lines, no_others_then, others_in}
 use Rattle.ttree_go_test.proofs.Laws.Stored.{bytes_same}
 use Rattle.ttree_go_test.proofs.Laws.WellKept.{IfPlaced, IsPlaced, IsWell, and_left, and_right, emptied, filled, found, found_back, found_emptied, none_emptied, owner_runs, placed_found, well_emptied, well_filled, well_found}
@@ -22,17 +22,17 @@ pending path name s = part_of (found path name s.packages)
 -- Between two states the text is accounted for.
 pub record Accounts (texts : List Printed) (s t : GoState) : Type 0 where
   pub items : List Shown
-  pub cut : (q m : List ℕ) → text_of q m (lines_in items) ++ pending q m t ≡ pending q m s ++ text_of q m texts
+  pub cut : (q m : List ℕ) → test_text q m (lines_in items) ++ pending q m t ≡ pending q m s ++ test_text q m texts
   pub sends : sent t ≡ sent s ++ shown_messages items
   pub builds : t.builds ≡ s.builds
   pub well : IsWell t.packages
   pub no_other : others_in items ≡ []
 
-text_then : (q m : List ℕ) (a b : List Printed) → text_of q m (a ++ b) ≡ text_of q m a ++ text_of q m b
+text_then : (q m : List ℕ) (a b : List Printed) → test_text q m (a ++ b) ≡ test_text q m a ++ test_text q m b
 text_then q m a b = flat_map-append (text_by q m) a b
 
-pub lines_then : (q m : List ℕ) (a b : List Shown) → text_of q m (lines_in (a ++ b)) ≡ text_of q m (lines_in a) ++ text_of q m (lines_in b)
-lines_then q m a b = ap (text_of q m) (flat_map-append line_in a b) ∙ text_then q m (lines_in a) (lines_in b)
+pub lines_then : (q m : List ℕ) (a b : List Shown) → test_text q m (lines_in (a ++ b)) ≡ test_text q m (lines_in a) ++ test_text q m (lines_in b)
+lines_then q m a b = ap (test_text q m) (flat_map-append line_in a b) ∙ text_then q m (lines_in a) (lines_in b)
 
 cut_then : (a b p r u x y : List ℕ) → a ++ r ≡ p ++ x → b ++ u ≡ r ++ y → (a ++ b) ++ u ≡ p ++ (x ++ y)
 cut_then a b p r u x y one two = append_assoc a b u ∙ ap (λ rest. a ++ rest) two ∙ sym (append_assoc a r y) ∙ ap (λ front. front ++ y) one ∙ append_assoc p x y
@@ -41,7 +41,7 @@ pub then_accounts : (a b : List Printed) (s t u : GoState) → Accounts a s t �
 then_accounts a b s t u h k = record {
   items = h.items ++ k.items;
   cut = λ q m. ap (λ text. text ++ pending q m u) (lines_then q m h.items k.items)
-      ∙ cut_then (text_of q m (lines_in h.items)) (text_of q m (lines_in k.items)) (pending q m s) (pending q m t) (pending q m u) (text_of q m a) (text_of q m b) (h.cut q m) (k.cut q m)
+      ∙ cut_then (test_text q m (lines_in h.items)) (test_text q m (lines_in k.items)) (pending q m s) (pending q m t) (pending q m u) (test_text q m a) (test_text q m b) (h.cut q m) (k.cut q m)
       ∙ ap (λ text. pending q m s ++ text) (sym (text_then q m a b));
   sends = k.sends ∙ ap (λ all. all ++ shown_messages k.items) h.sends ∙ append_assoc (sent s) (shown_messages h.items) (shown_messages k.items)
       ∙ ap (λ more. sent s ++ more) (sym (flat_map-append shown_message h.items k.items));
@@ -50,7 +50,7 @@ then_accounts a b s t u h k = record {
   no_other = no_others_then h.items k.items h.no_other k.no_other;
 }
 
-pub with_texts : (a b : List Printed) (s t : GoState) → ((q m : List ℕ) → text_of q m a ≡ text_of q m b) → Accounts a s t → Accounts b s t
+pub with_texts : (a b : List Printed) (s t : GoState) → ((q m : List ℕ) → test_text q m a ≡ test_text q m b) → Accounts a s t → Accounts b s t
 with_texts a b s t same h = record {
   items = h.items;
   cut = λ q m. h.cut q m ∙ ap (λ text. pending q m s ++ text) (same q m);
@@ -87,24 +87,24 @@ if_nil true = refl
 if_nil false = refl
 
 text_its : (q m : List ℕ) (one : Running) (lines : List (List ℕ)) →
-    text_of q m (lines_in (lines_of_its one lines)) ≡ (if bytes_eq q one.path && bytes_eq m one.test then joined lines else [])
+    test_text q m (lines_in (lines_of_its one lines)) ≡ (if bytes_eq q one.path && bytes_eq m one.test then joined lines else [])
 text_its q m one [] = if_nil (bytes_eq q one.path && bytes_eq m one.test)
 text_its q m one (line ∷ lines) =
-    if_joined (bytes_eq q one.path && bytes_eq m one.test) line (joined lines) (text_of q m (lines_in (lines_of_its one lines))) (text_its q m one lines)
+    if_joined (bytes_eq q one.path && bytes_eq m one.test) line (joined lines) (test_text q m (lines_in (lines_of_its one lines))) (text_its q m one lines)
 
 -- and its end
 pub text_ended : (q m : List ℕ) (one : Running) (lines : List (List ℕ)) (ends : List Shown) → lines_in ends ≡ [] →
-    text_of q m (lines_in (lines_of_its one lines ++ ends)) ≡ (if bytes_eq q one.path && bytes_eq m one.test then joined lines else [])
+    test_text q m (lines_in (lines_of_its one lines ++ ends)) ≡ (if bytes_eq q one.path && bytes_eq m one.test then joined lines else [])
 text_ended q m one lines ends none =
     lines_then q m (lines_of_its one lines) ends
-    ∙ ap (λ more. text_of q m (lines_in (lines_of_its one lines)) ++ text_of q m more) none
-    ∙ append-nil (text_of q m (lines_in (lines_of_its one lines))) ∙ text_its q m one lines
+    ∙ ap (λ more. test_text q m (lines_in (lines_of_its one lines)) ++ test_text q m more) none
+    ∙ append-nil (test_text q m (lines_in (lines_of_its one lines))) ∙ text_its q m one lines
 
 -- text of this test
 abbrev pub its : List ℕ → List ℕ → List ℕ → List Printed
 its path name text = record { path = path; test = name; text = text } ∷ []
 
-pub no_text : (path name q m : List ℕ) → text_of q m (its path name []) ≡ text_of q m []
+pub no_text : (path name q m : List ℕ) → test_text q m (its path name []) ≡ test_text q m []
 no_text path name q m = by (bytes_eq q path && bytes_eq m name) where
   by : (b : Bool) → (if b then nothing else nothing) ++ nothing ≡ nothing
   by true = refl
@@ -142,7 +142,7 @@ same_pending q m path name s is =
 -- the text of this test is cut, and all other text stays
 cut_at : (q m path name : List ℕ) (one : Running) (s : GoState) (lines : List (List ℕ)) (ends : List Shown) (part text after : List ℕ) → one.path ≡ path → one.test ≡ name →
     lines_in ends ≡ [] → joined lines ++ part ≡ pending path name s ++ text → after ≡ (if bytes_eq q path && bytes_eq m name then part else pending q m s) →
-    text_of q m (lines_in (lines_of_its one lines ++ ends)) ++ after ≡ pending q m s ++ text_of q m (its path name text)
+    test_text q m (lines_in (lines_of_its one lines ++ ends)) ++ after ≡ pending q m s ++ test_text q m (its path name text)
 cut_at q m path name one s lines ends part text after p n none cut is =
     let here : Bool = bytes_eq q path && bytes_eq m name in
     let at : (bytes_eq q one.path && bytes_eq m one.test) ≡ here =
@@ -161,18 +161,18 @@ part_if false one o = refl
 
 -- it is put back after its text was cut, and after an end was shown
 pub kept_accounts : (path name text : List ℕ) (s : GoState) (h k : Held) (t : GoState) → IsWell s.packages → Holds path name s h → Cuts text h k → (k.one.has_begun ≡ false → k.one.part ≡ []) → (k.one.has_begun ≡ false → name ≡ []) →
-    Ends k.state t → Accounts (its path name text) s (kept (holds k.one t))
-unfolding kept
+    Ends k.state t → Accounts (its path name text) s (test_kept (holds k.one t))
+unfolding test_kept
 kept_accounts path name text s h k t w is cuts begins of_package shows =
     let packages : t.packages ≡ emptied path name s.packages = shows.sends.packages ∙ cuts.sends.packages ∙ is.packages in
     let p : k.one.path ≡ path = cuts.path ∙ is.path_is in
     let n : k.one.test ≡ name = cuts.test ∙ is.test_is in
-    let all : (kept (holds k.one t)).packages ≡ filled path name k.one (emptied path name s.packages) =
+    let all : (test_kept (holds k.one t)).packages ≡ filled path name k.one (emptied path name s.packages) =
     ap (λ x. filled x k.one.test k.one t.packages) p ∙ ap (λ x. filled path x k.one t.packages) n ∙ ap (filled path name k.one) packages in
     let sends = then_sends h.state k.state t (shown_messages (lines_of_its h.one cuts.lines)) (shown_messages shows.ends) cuts.sends shows.sends in
     record {
       items = lines_of_its h.one cuts.lines ++ shows.ends;
-      cut = λ q m. cut_at q m path name h.one s cuts.lines shows.ends k.one.part text (pending q m (kept (holds k.one t))) is.path_is is.test_is shows.no_line
+      cut = λ q m. cut_at q m path name h.one s cuts.lines shows.ends k.one.part text (pending q m (test_kept (holds k.one t))) is.path_is is.test_is shows.no_line
           (cuts.cut ∙ ap (λ part. part ++ text) is.part_is)
           (ap (λ x. part_of (found q m x)) all ∙ ap part_of (found_back q m path name k.one s.packages) ∙ part_if (bytes_eq q path && bytes_eq m name) k.one (found q m s.packages));
       sends = sends.sent_too ∙ ap (λ more. more ++ (shown_messages (lines_of_its h.one cuts.lines) ++ shown_messages shows.ends)) is.sent_too
@@ -210,7 +210,7 @@ removed_accounts path name s h t w is ends =
 -- ---- the longest prefix of a name that runs is taken out
 
 abbrev pub or_begun : List ℕ → Option Running → Running
-or_begun path o = unwrap_or o (begun path [])
+or_begun path o = unwrap_or o (new_running path [])
 
 pub placed_by : (path name : List ℕ) (o : Option Running) → IfPlaced path name o → (is_some o ≡ false → name ≡ []) → IsPlaced path name (or_begun path o)
 placed_by path name None h missing = (refl, sym (missing refl), λ _. refl, λ _. missing refl)
@@ -223,8 +223,8 @@ part_by path (Some one) = refl
 abbrev pub holder : List ℕ → List ℕ → GoState → List ℕ
 holder path test s = owner (tests_of path s) test
 
-pub held_holds : (path test : List ℕ) (s : GoState) → IsWell s.packages → Holds path (holder path test s) s (held path test s)
-unfolding held
+pub held_holds : (path test : List ℕ) (s : GoState) → IsWell s.packages → Holds path (holder path test s) s (held_test path test s)
+unfolding held_test
 held_holds path test s w =
     let name : List ℕ = holder path test s in
     let tests : Tests = tests_of path s in

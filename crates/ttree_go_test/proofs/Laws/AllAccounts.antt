@@ -11,12 +11,12 @@ use Rattle.ttree_go_test.specs.declared.go_test.builds.Build.{Build}
 use Rattle.ttree_go_test.specs.declared.go_test.tally.Ending.TheVariants.{Failed}
 use Rattle.tracing_tree_lines.specs.Lines.Spelled.{is_skipped}
 use Rattle.ttree_source.specs.Marks.{after_mark, begins, is_empty}
-use Rattle.ttree_source.specs.Calls.{shown}
+use Rattle.ttree_source.specs.Calls.{shown_text}
 use Rattle.tracing_tree_layer.specs.declared.call.Call.{Call}
 use Rattle.ttree_go_test.specs.Names.{named, without}
 use Rattle.ttree_go_test.specs.Texts.{is_package_frame, up_to_space, without_line_end, ends_word}
-use Rattle.ttree_go_test.specs.GoTest.{GoState, Held, begun, build_last, build_of, build_printed, build_said, build_emitted, builds_said, built_after, event_emitted, held, holds, is_aside, kept, level_of_build, level_of_text, more_built, opened, package_ended, said, takes_failure, takes_heading, takes_plain, takes_text, texts_emitted, emitted_of_build, without_build, without_heading, Tests, owner_within, tests_of}
-use Rattle.ttree_go_test.specs.Printed.{BuildPrint, Printed, Shown, Shown.Line, Shown.End, Shown.NamedEnd, Shown.Built, Shown.Plain, built_by, built_of, is_plain, lines_in, plain_in, plains_in, print_by, shown_message, shown_messages, strings_of, text_by, text_of, unless_blank, messages}
+use Rattle.ttree_go_test.specs.GoTest.{GoState, Held, new_running, build_last, build_of, build_printed, build_said, build_emitted, builds_said, built_after, text_event_emitted, held_test, holds, is_aside, test_kept, level_of_build, level_of_text, more_built, held_opened, package_ended, said, takes_failure, takes_heading, takes_plain, takes_text, texts_emitted, emitted_of_build, without_build, without_heading, Tests, owner_within, tests_of}
+use Rattle.ttree_go_test.specs.Printed.{BuildPrint, Printed, Shown, Shown.Line, Shown.End, Shown.NamedEnd, Shown.Built, Shown.Plain, built_by, built_of, is_plain, lines_in, plain_in, plains_in, print_by, shown_message, shown_messages, strings_of, text_by, test_text, unless_blank, messages}
 use Rattle.ttree_go_test.proofs.Laws.Printing.{Sends, event_shows, none_sent, others_in, said_shows, sent, then_sends}
 use Rattle.ttree_go_test.proofs.Laws.Stored.{IsSorted, bytes_same, found_again, found_without, none_without, sorted_put, sorted_without}
 use Rattle.ttree_go_test.proofs.Laws.WellKept.{IsWell, emptied, filled, found, found_back}
@@ -34,7 +34,7 @@ waiting path s = texts_waiting (named path s.builds)
 
 pub record All (texts : List Printed) (builds : List BuildPrint) (plains : List (List ℕ)) (s t : GoState) : Type 0 where
   pub items : List Shown
-  pub cut : (q m : List ℕ) → text_of q m (lines_in items) ++ pending q m t ≡ pending q m s ++ text_of q m texts
+  pub cut : (q m : List ℕ) → test_text q m (lines_in items) ++ pending q m t ≡ pending q m s ++ test_text q m texts
   pub sends : sent t ≡ sent s ++ shown_messages items
   pub built : (q : List ℕ) → built_of q items ++ waiting q t ≡ waiting q s ++ strings_of q builds
   pub plain : plains_in items ≡ plains
@@ -82,7 +82,7 @@ pub then_all : (a b : List Printed) (c d : List BuildPrint) (e f : List (List �
 then_all a b c d e f s t u h k = record {
   items = h.items ++ k.items;
   cut = λ q m. ap (λ text. text ++ pending q m u) (lines_then q m h.items k.items)
-      ∙ cut_then (text_of q m (lines_in h.items)) (text_of q m (lines_in k.items)) (pending q m s) (pending q m t) (pending q m u) (text_of q m a) (text_of q m b) (h.cut q m) (k.cut q m)
+      ∙ cut_then (test_text q m (lines_in h.items)) (test_text q m (lines_in k.items)) (pending q m s) (pending q m t) (pending q m u) (test_text q m a) (test_text q m b) (h.cut q m) (k.cut q m)
       ∙ ap (λ text. pending q m s ++ text) (sym (flat_map-append (text_by q m) a b));
   sends = k.sends ∙ ap (λ all. all ++ shown_messages k.items) h.sends ∙ append_assoc (sent s) (shown_messages h.items) (shown_messages k.items)
       ∙ ap (λ more. sent s ++ more) (sym (flat_map-append shown_message h.items k.items));
@@ -139,12 +139,12 @@ build_printed_all path text s w ordered = record {
 -- ---- what a build printed is reported
 
 -- an event doesn't change what is pending
-kept_pending : (path name : List ℕ) (s : GoState) (h k : Held) → Holds path name s h → Same h k → (q m : List ℕ) → pending q m (kept k) ≡ pending q m s
-unfolding kept
+kept_pending : (path name : List ℕ) (s : GoState) (h k : Held) → Holds path name s h → Same h k → (q m : List ℕ) → pending q m (test_kept k) ≡ pending q m s
+unfolding test_kept
 kept_pending path name s h k is like q m =
     let p : k.one.path ≡ path = like.path ∙ is.path_is in
     let n : k.one.test ≡ name = like.test ∙ is.test_is in
-    let all : (kept k).packages ≡ filled path name k.one (emptied path name s.packages) =
+    let all : (test_kept k).packages ≡ filled path name k.one (emptied path name s.packages) =
     ap (λ x. filled x k.one.test k.one k.state.packages) p ∙ ap (λ x. filled path x k.one k.state.packages) n ∙ ap (filled path name k.one) (like.packages ∙ is.packages) in
     ap (λ packages. part_of (found q m packages)) all ∙ ap part_of (found_back q m path name k.one s.packages)
     ∙ part_if (bytes_eq q path && bytes_eq m name) k.one (found q m s.packages) ∙ by (bytes_eq q path && bytes_eq m name) refl where
@@ -160,8 +160,8 @@ build_said_shows path level text h = by (is_skipped line) (said_shows at line h)
   at : Level
   at = level_of_build level line
 
-  by : (b : Bool) → Sends h.state (said at line (opened h)).state (if b then [] else shown line ∷ []) →
-      Sends h.state (if b then h else said at line (opened h)).state ((if b then [] else shown line ∷ []) ++ [])
+  by : (b : Bool) → Sends h.state (said at line (held_opened h)).state (if b then [] else shown_text line ∷ []) →
+      Sends h.state (if b then h else said at line (held_opened h)).state ((if b then [] else shown_text line ∷ []) ++ [])
   by true sends = none_sent h.state
   by false sends = sends
 
@@ -206,34 +206,34 @@ no_plains path (text ∷ later) = no_plains path later
 
 -- these events are of builds
 pub texts_send : (path : List ℕ) (level : Level) (build : Build) (s : GoState) → sent (texts_emitted level build s) ≡ sent s ++ shown_messages (map (Built path) build.texts)
-unfolding kept held
-texts_send path level build s = (builds_said_show path level build.texts (held build.path [] s)).sent_too
+unfolding test_kept held_test
+texts_send path level build s = (builds_said_show path level build.texts (held_test build.path [] s)).sent_too
 
 -- and so are those at the end
 pub last_sends : (path : List ℕ) (build : Build) (s : GoState) → sent (build_last build s) ≡ sent s ++ shown_messages (map (Built path) build.texts)
 last_sends path build s =
-    let h : Held = holds (begun build.path []) s in
+    let h : Held = holds (new_running build.path []) s in
     let all : Held = builds_said Warn build.texts h in
     (closed_sends all.one.span all).sent_too ∙ append-nil (sent all.state) ∙ (builds_said_show path Warn build.texts h).sent_too
 
 texts_builds : (path : List ℕ) (level : Level) (build : Build) (s : GoState) → (texts_emitted level build s).builds ≡ s.builds
-unfolding kept held
-texts_builds path level build s = (builds_said_show path level build.texts (held build.path [] s)).builds
+unfolding test_kept held_test
+texts_builds path level build s = (builds_said_show path level build.texts (held_test build.path [] s)).builds
 
 emitted_some : (path : List ℕ) (level : Level) (build : Build) (s : GoState) → named path s.builds ≡ Some build → IsWell s.packages → IsSorted s.builds →
     All [] [] [] s (texts_emitted level build (without_build path s))
 emitted_some path level build s is w ordered =
     let at : GoState = without_build path s in
     let name : List ℕ = holder build.path [] at in
-    let h : Held = held build.path [] at in
+    let h : Held = held_test build.path [] at in
     let k : Held = builds_said level build.texts h in
     let holds_it = held_holds build.path [] at w in
     let like = builds_said_same level build.texts h in
     record {
       items = map (Built path) build.texts;
-      cut = λ q m. ap (λ lines. text_of q m lines ++ pending q m (kept k)) (no_lines path build.texts) ∙ kept_pending build.path name at h k holds_it like q m ∙ sym (append-nil (pending q m s));
+      cut = λ q m. ap (λ lines. test_text q m lines ++ pending q m (test_kept k)) (no_lines path build.texts) ∙ kept_pending build.path name at h k holds_it like q m ∙ sym (append-nil (pending q m s));
       sends = texts_send path level build at;
-      built = λ q. ap (λ front. front ++ waiting q (kept k)) (built_items q path build.texts)
+      built = λ q. ap (λ front. front ++ waiting q (test_kept k)) (built_items q path build.texts)
           ∙ ap (λ builds. (if bytes_eq q path then build.texts else []) ++ texts_waiting (named q builds)) (texts_builds path level build at)
           ∙ by q (bytes_eq q path) refl;
       plain = no_plains path build.texts;
@@ -279,7 +279,7 @@ build_emitted_all level path s w ordered = by (named path s.builds) refl where
 abbrev plain_if : Bool → List ℕ → List (List ℕ)
 plain_if b line = if b then line ∷ [] else []
 
-event_all : (level : Level) (line : List ℕ) (s : GoState) → IsWell s.packages → IsSorted s.builds → All [] [] (line ∷ []) s (event_emitted level line [] s.last s)
+event_all : (level : Level) (line : List ℕ) (s : GoState) → IsWell s.packages → IsSorted s.builds → All [] [] (line ∷ []) s (text_event_emitted level line [] s.last s)
 event_all level line s w ordered =
     let sends = event_shows level line [] s.last s in
     record {
@@ -292,12 +292,12 @@ event_all level line s w ordered =
       ordered = rw sends.builds ordered;
     }
 
-said_all : (level : Level) (path line : List ℕ) (s : GoState) → IsWell s.packages → IsSorted s.builds → All [] [] (line ∷ []) s (kept (said level line (opened (held path [] s))))
-unfolding kept held
+said_all : (level : Level) (path line : List ℕ) (s : GoState) → IsWell s.packages → IsSorted s.builds → All [] [] (line ∷ []) s (test_kept (said level line (held_opened (held_test path [] s))))
+unfolding test_kept held_test
 said_all level path line s w ordered =
     let name : List ℕ = holder path [] s in
-    let h : Held = held path [] s in
-    let k : Held = said level line (opened h) in
+    let h : Held = held_test path [] s in
+    let k : Held = said level line (held_opened h) in
     let holds_it = held_holds path [] s w in
     let like = said_same level line h in
     let sends = said_shows level line h in
@@ -314,7 +314,7 @@ said_all level path line s w ordered =
 plain_all : (line : List ℕ) (s : GoState) → IsWell s.packages → IsSorted s.builds → All [] [] (plain_if (not (is_package_frame line)) line) s (takes_plain line s)
 plain_all line s w ordered = by (is_package_frame line) (is_aside line s) where
   by : (a b : Bool) → All [] [] (plain_if (not a) line) s
-      (if a then s else if b then event_emitted (level_of_text line) line [] s.last s else kept (said Error line (opened (held s.building [] s))))
+      (if a then s else if b then text_event_emitted (level_of_text line) line [] s.last s else test_kept (said Error line (held_opened (held_test s.building [] s))))
   by true b = same_all s s refl refl refl w ordered
   by false true = event_all (level_of_text line) line s w ordered
   by false false = said_all Error s.building line s w ordered
@@ -366,12 +366,12 @@ owner_same a b test (suc n) low same =
       full [] e = absurd (omega arith)
       full (c ∷ name) e = grind (arith, nat_tests)
 
-kept_found : (path name : List ℕ) (s : GoState) (h k : Held) → Holds path name s h → Same h k → name ≡ [] → (q m : List ℕ) → is_empty m ≡ false → found q m (kept k).packages ≡ found q m s.packages
-unfolding kept
+kept_found : (path name : List ℕ) (s : GoState) (h k : Held) → Holds path name s h → Same h k → name ≡ [] → (q m : List ℕ) → is_empty m ≡ false → found q m (test_kept k).packages ≡ found q m s.packages
+unfolding test_kept
 kept_found path name s h k is like none q m full =
     let p : k.one.path ≡ path = like.path ∙ is.path_is in
     let n : k.one.test ≡ name = like.test ∙ is.test_is in
-    let all : (kept k).packages ≡ filled path name k.one (emptied path name s.packages) =
+    let all : (test_kept k).packages ≡ filled path name k.one (emptied path name s.packages) =
     ap (λ x. filled x k.one.test k.one k.state.packages) p ∙ ap (λ x. filled path x k.one k.state.packages) n ∙ ap (filled path name k.one) (like.packages ∙ is.packages) in
     ap (found q m) all ∙ found_back q m path name k.one s.packages
     ∙ ap (λ x. if bytes_eq q path && bytes_eq m x then Some k.one else found q m s.packages) none
@@ -392,6 +392,6 @@ same_holder level path test s w = by (named path s.builds) where
   by None = refl
   by (Some build) =
       let at : GoState = without_build path s in
-      let h : Held = held build.path [] at in
+      let h : Held = held_test build.path [] at in
       owner_same (tests_of path (texts_emitted level build at)) (tests_of path s) test (length test) (omega arith)
       (λ m full. kept_found build.path (holder build.path [] at) at h (builds_said level build.texts h) (held_holds build.path [] at w) (builds_said_same level build.texts h) refl path m full)

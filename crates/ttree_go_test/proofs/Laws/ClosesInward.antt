@@ -20,9 +20,9 @@ use Rattle.tracing_tree_lines.specs.Lines.Spelled.{is_skipped}
 use Rattle.ttree_source.specs.Marks.{is_empty}
 use Rattle.ttree_go_test.specs.Names.{named, without}
 use Rattle.ttree_source.specs.Calls.{close_call, event_call, message_field}
-use Rattle.ttree_go_test.specs.Closing.{ClosesAll, IsAmong, InnerFirst, IsBelow, NamedSpan, NoneBelow, closed, is_end}
+use Rattle.ttree_go_test.specs.Closing.{ClosesAll, IsAmong, InnerFirst, IsBelow, NamedSpan, NoneBelow, spans_closed, is_end}
 use Rattle.ttree_go_test.specs.Nesting.{ArePlacedCalls}
-use Rattle.ttree_go_test.specs.GoTest.{GoState, Held, Tests, all_left_over, begun, counted, end_fields, event_emitted, finished, holds, left_as, left_one, left_over, level_of, noted_left, package_counted, package_ended, part_emitted, placed, running_as, span_ended, span_in, tests_of, emitted, without_package, word_of, go_takes, nothing_run, moved, ran, build_over, package_started}
+use Rattle.ttree_go_test.specs.GoTest.{GoState, Held, Tests, all_left_over, new_running, end_counted, test_end_fields, text_event_emitted, held_finished, holds, left_as, left_one, left_over, level_of_ending, noted_left, package_counted, package_ended, part_emitted, test_placed, running_as, span_ended, span_of_test, tests_of, emitted_with_last, without_package, ending_word, go_takes, nothing_run, moved, ran, build_over, package_started}
 use Rattle.tracing_tree_base.specs.declared.context.Moment.{Moment}
 use Rattle.ttree_source.specs.Source.{interpret}
 use Rattle.ttree_go_test.proofs.Laws.Reachable.{reached_calls, reached_well}
@@ -33,7 +33,7 @@ use Rattle.ttree_go_test.proofs.Laws.WellKept.{ArePlaced, IsWell, well_found, we
 
 -- ---- calls that close nothing
 
-closed_then : (a b : List Call) → closed (a ++ b) ≡ closed a ++ closed b
+closed_then : (a b : List Call) → spans_closed (a ++ b) ≡ spans_closed a ++ spans_closed b
 closed_then [] b = refl
 closed_then (New attributes context ∷ a) b = closed_then a b
 closed_then (Clone id ∷ a) b = closed_then a b
@@ -41,7 +41,7 @@ closed_then (Record id fields ∷ a) b = closed_then a b
 closed_then (Event event context ∷ a) b = closed_then a b
 closed_then (Close id context ∷ a) b = ap (λ ids. id ∷ ids) (closed_then a b)
 
-none_closed : (parent own : Option Id) (calls : List Call) → ArePlacedCalls parent own calls → closed calls ≡ []
+none_closed : (parent own : Option Id) (calls : List Call) → ArePlacedCalls parent own calls → spans_closed calls ≡ []
 none_closed parent own [] h = refl
 none_closed parent own (New attributes context ∷ calls) h = none_closed parent own calls h.1
 none_closed parent own (Clone id ∷ calls) h = absurd h.0
@@ -53,7 +53,7 @@ none_closed parent own (Close id context ∷ calls) h = absurd h.0
 record Adds (s t : GoState) (ids : List Id) : Type 0 where
   more : List Call
   calls : t.calls ≡ s.calls ++ more
-  closes : closed more ≡ ids
+  closes : spans_closed more ≡ ids
 
 no_adds : (s : GoState) → Adds s s []
 no_adds s = record { more = []; calls = sym (append-nil s.calls); closes = refl }
@@ -62,12 +62,12 @@ then_adds : (s t u : GoState) (a b : List Id) → Adds s t a → Adds t u b → 
 then_adds s t u a b h k = record {
   more = h.more ++ k.more;
   calls = k.calls ∙ ap (λ calls. calls ++ k.more) h.calls ∙ append_assoc s.calls h.more k.more;
-  closes = closed_then h.more k.more ∙ ap (λ ids. ids ++ closed k.more) h.closes ∙ ap (λ ids. a ++ ids) k.closes;
+  closes = closed_then h.more k.more ∙ ap (λ ids. ids ++ spans_closed k.more) h.closes ∙ ap (λ ids. a ++ ids) k.closes;
 }
 
-event_adds : (level : Level) (text : List ℕ) (rest : List Field) (parent : Option Id) (s : GoState) → Adds s (event_emitted level text rest parent s) []
+event_adds : (level : Level) (text : List ℕ) (rest : List Field) (parent : Option Id) (s : GoState) → Adds s (text_event_emitted level text rest parent s) []
 event_adds level text rest parent s = by (is_skipped text) where
-  by : (b : Bool) → Adds s (if b then s else emitted parent (event_call s.moment level (message_field text ∷ rest) parent) s) []
+  by : (b : Bool) → Adds s (if b then s else emitted_with_last parent (event_call s.moment level (message_field text ∷ rest) parent) s) []
   by true = no_adds s
   by false = record { more = event_call s.moment level (message_field text ∷ rest) parent ∷ []; calls = refl; closes = refl }
 
@@ -80,22 +80,23 @@ one_id (Some id) = id ∷ []
 span_adds : (ending : Ending) (rest : List Field) (span : Option Id) (h : Held) → Adds h.state (span_ended ending rest span h) (one_id span)
 unfolding one_id
 span_adds ending rest (Some id) h =
-    let event : GoState = event_emitted (level_of ending) (word_of ending) rest (Some id) h.state in
+    let event : GoState = text_event_emitted (level_of_ending ending) (ending_word ending) rest
+    (Some id) h.state in
     let close : Call = close_call h.state.moment id h.one.parent in
-    then_adds h.state event (emitted h.one.parent close event) [] (id ∷ []) (event_adds (level_of ending) (word_of ending) rest (Some id) h.state)
+    then_adds h.state event (emitted_with_last h.one.parent close event) [] (id ∷ []) (event_adds (level_of_ending ending) (ending_word ending) rest (Some id) h.state)
     (record { more = close ∷ []; calls = refl; closes = refl })
-span_adds ending rest None h = event_adds (level_of ending) (word_of ending ++ codes " " ++ h.one.name) rest h.one.parent h.state
+span_adds ending rest None h = event_adds (level_of_ending ending) (ending_word ending ++ codes " " ++ h.one.name) rest h.one.parent h.state
 
 record ClosesOne (h : Held) (t : GoState) : Type 0 where
   span : Option Id
   keeps : is_some h.one.span ≡ true → span ≡ h.one.span
   adds : Adds h.state t (one_id span)
 
-finished_closes : (ending : Ending) (elapsed : Option (List ℕ)) (h : Held) → ClosesOne h (finished ending elapsed h)
+finished_closes : (ending : Ending) (elapsed : Option (List ℕ)) (h : Held) → ClosesOne h (held_finished ending elapsed h)
 finished_closes ending elapsed h =
     let last : Held = part_emitted h in
     let places = part_places h in
-    let rest : List Field = end_fields elapsed last.one in
+    let rest : List Field = test_end_fields elapsed last.one in
     record {
       span = last.one.span;
       keeps = places.keeps;
@@ -104,7 +105,7 @@ finished_closes ending elapsed h =
           (span_adds ending rest last.one.span last);
     }
 
-counted_calls : (ending : Ending) (path test : List ℕ) (s : GoState) → (counted ending path test s).calls ≡ s.calls
+counted_calls : (ending : Ending) (path test : List ℕ) (s : GoState) → (end_counted ending path test s).calls ≡ s.calls
 counted_calls Passed path test s = refl
 counted_calls Failed path test s = refl
 counted_calls Skipped path test s = refl
@@ -118,7 +119,7 @@ package_counted_calls Unfinished path s = refl
 
 noted_calls : (ending : Ending) (one : Running) (s : GoState) → (noted_left ending one s).calls ≡ s.calls
 noted_calls ending one s = by (is_empty one.test) where
-  by : (b : Bool) → (if b then package_counted ending one.path s else counted ending one.path one.test s).calls ≡ s.calls
+  by : (b : Bool) → (if b then package_counted ending one.path s else end_counted ending one.path one.test s).calls ≡ s.calls
   by true = package_counted_calls ending one.path s
   by false = counted_calls ending one.path one.test s
 
@@ -131,7 +132,7 @@ package_counted_tests Unfinished path s = refl
 -- a test that has started is closed
 left_closes : (ending : Ending) (one : Running) (s : GoState) → one.has_begun ≡ true → ClosesOne (holds one s) (left_one ending one s)
 left_closes ending one s begun = by one.has_begun begun where
-  by : (b : Bool) → b ≡ true → ClosesOne (holds one s) (if b then finished ending None (holds one (noted_left ending one s)) else s)
+  by : (b : Bool) → b ≡ true → ClosesOne (holds one s) (if b then held_finished ending None (holds one (noted_left ending one s)) else s)
   by true h =
       let at : GoState = noted_left ending one s in
       let closes = finished_closes ending None (holds one at) in
@@ -242,7 +243,7 @@ record ClosesOver (tests : Tests) (s t : GoState) : Type 0 where
   adds : Adds s t (ids spans)
   inner : InnerFirst spans
   behind : (a : List ℕ) → AllAfter a tests → AllBehind a spans
-  all : (name : List ℕ) (id : Id) → span_in tests name ≡ Some id → IsAmong (name, id) spans
+  all : (name : List ℕ) (id : Id) → span_of_test tests name ≡ Some id → IsAmong (name, id) spans
 
 with_ids : (s t : GoState) (a b : List Id) → a ≡ b → Adds s t a → Adds s t b
 with_ids s t a b e h = record { more = h.more; calls = h.calls; closes = h.closes ∙ e }
@@ -285,7 +286,7 @@ over_closes path ending root earlier [] s p h none = record {
 over_closes path ending root earlier (test ∷ later) s p h none =
     let rest : GoState = left_over ending root (earlier ++ test ∷ []) later s in
     let others = over_closes path ending root (earlier ++ test ∷ []) later s p.1 h.1 (tail_none test.0 test.1 later none) in
-    let one : Running = placed root earlier test.1 in
+    let one : Running = test_placed root earlier test.1 in
     let at : GoState = left_one ending one rest in
     let closes = left_closes ending one rest (has_started one (λ f. head_full test.0 test.1 later none (p.0.3 f))) in
     record {
@@ -296,15 +297,15 @@ over_closes path ending root earlier (test ∷ later) s p h none =
       behind = λ a after. behind_one a test.0 others.spans closes.span (others.behind a after.1) after.0;
       all = λ name id is. at_name others.spans closes.span others.all closes.keeps name id is (bytes_eq name test.0) refl;
     } where
-      at_name : (spans : List NamedSpan) (span : Option Id) → ((n : List ℕ) (i : Id) → span_in later n ≡ Some i → IsAmong (n, i) spans) → (is_some test.1.span ≡ true → span ≡ test.1.span) →
-          (name : List ℕ) (id : Id) → span_in (test ∷ later) name ≡ Some id → (b : Bool) → bytes_eq name test.0 ≡ b → IsAmong (name, id) (spans ++ named_one test.0 span)
+      at_name : (spans : List NamedSpan) (span : Option Id) → ((n : List ℕ) (i : Id) → span_of_test later n ≡ Some i → IsAmong (n, i) spans) → (is_some test.1.span ≡ true → span ≡ test.1.span) →
+          (name : List ℕ) (id : Id) → span_of_test (test ∷ later) name ≡ Some id → (b : Bool) → bytes_eq name test.0 ≡ b → IsAmong (name, id) (spans ++ named_one test.0 span)
       at_name spans span all keeps name id is true e =
           let same : test.0 ≡ name = sym (bytes_same name test.0 e) in
           let own : test.1.span ≡ Some id = sym (ap (λ b. span_of_it (cond b (Some test.1) (named name later))) (is_eq-slice_cmp name test.0 ∙ e)) ∙ is in
           let P : List ℕ → Type 0 = λ n. IsAmong (name, id) (spans ++ named_one n span) in
           subst P (sym same) (holds_one name id spans span (some_kept span test.1.span id keeps own))
       at_name spans span all keeps name id is false e =
-          let other : span_in later name ≡ Some id = sym (ap (λ b. span_of_it (cond b (Some test.1) (named name later))) (is_eq-slice_cmp name test.0 ∙ e)) ∙ is in
+          let other : span_of_test later name ≡ Some id = sym (ap (λ b. span_of_it (cond b (Some test.1) (named name later))) (is_eq-slice_cmp name test.0 ∙ e)) ∙ is in
           holds_front (name, id) spans (named_one test.0 span) (all name id other)
 
 -- ---- a package ends
@@ -323,7 +324,7 @@ pub record ClosesPackage (tests : Tests) (s t : GoState) : Type 0 where
 same_front : (a b more all : List Call) → all ≡ a ++ more → a ≡ b → all ≡ b ++ more
 same_front a b more all h k = h ∙ ap (λ calls. calls ++ more) k
 
-own_span : (path : List ℕ) (o : Option Running) (id : Id) → span_of_it o ≡ Some id → (unwrap_or o (begun path [])).span ≡ Some id
+own_span : (path : List ℕ) (o : Option Running) (id : Id) → span_of_it o ≡ Some id → (unwrap_or o (new_running path [])).span ≡ Some id
 own_span path None id h = cc
 own_span path (Some one) id h = h
 
@@ -355,12 +356,12 @@ package_closes ending path elapsed s w =
         all = λ name id is. by tests (running_as path [] tests).span refl others.spans closes.span others.all closes.keeps name id is (bytes_eq name []) refl;
       });
     } where
-      by : (tests : Tests) (own : Option Id) → own ≡ (running_as path [] tests).span → (spans : List NamedSpan) (span : Option Id) → ((n : List ℕ) (i : Id) → span_in (without [] tests) n ≡ Some i → IsAmong (n, i) spans) →
-          (is_some own ≡ true → span ≡ own) → (name : List ℕ) (id : Id) → span_in tests name ≡ Some id → (b : Bool) → bytes_eq name [] ≡ b → IsAmong (name, id) (spans ++ named_one [] span)
+      by : (tests : Tests) (own : Option Id) → own ≡ (running_as path [] tests).span → (spans : List NamedSpan) (span : Option Id) → ((n : List ℕ) (i : Id) → span_of_test (without [] tests) n ≡ Some i → IsAmong (n, i) spans) →
+          (is_some own ≡ true → span ≡ own) → (name : List ℕ) (id : Id) → span_of_test tests name ≡ Some id → (b : Bool) → bytes_eq name [] ≡ b → IsAmong (name, id) (spans ++ named_one [] span)
       by tests own is_own spans span all keeps name id is true e =
           let none : name ≡ [] = bytes_same name [] e in
           let P : List ℕ → Type 0 = λ n. IsAmong (n, id) (spans ++ named_one [] span) in
-          subst P (sym none) (holds_one [] id spans span (some_kept span own id keeps (is_own ∙ own_span path (named [] tests) id (ap (span_in tests) (sym none) ∙ is))))
+          subst P (sym none) (holds_one [] id spans span (some_kept span own id keeps (is_own ∙ own_span path (named [] tests) id (ap (span_of_test tests) (sym none) ∙ is))))
       by tests own is_own spans span all keeps name id is false e =
           holds_front (name, id) spans (named_one [] span) (all name id (ap span_of_it (found_without name [] tests e) ∙ is))
 

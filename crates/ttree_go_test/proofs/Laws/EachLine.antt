@@ -17,10 +17,10 @@ use Rattle.ttree_source.specs.Marks.{is_empty}
 use Rattle.ttree_go_test.specs.Names.{named}
 use Rattle.ttree_source.specs.Source.{Interpreted, calls_of, interpret, interpret_line, interpreted_step}
 use Rattle.ttree_source.specs.Values.{text_at}
-use Rattle.ttree_source.specs.Calls.{shown}
+use Rattle.ttree_source.specs.Calls.{shown_text}
 use Rattle.tracing_tree_base.specs.declared.field.Field.{Field}
-use Rattle.ttree_go_test.specs.GoTest.{GoState, acted, acted_for, all_ended, build_last, build_over, build_printed_if, build_emitted, builds_emitted, elapsed_in, ended, go_ends, go_takes, handed_out, kind_in, more_text, moved, nothing_run, package_ended, package_of, package_started, packages_left, printed, printed_if, ran, takes_json, tally_call, tally_fields, test_of, timed, build_printed, takes_text}
-use Rattle.ttree_go_test.specs.Printed.{Print, Printed, ShowsEachLine, Shown, call_message, field_message, line_in, lines_in, messages, print_in, print_of, print_with, shown_message, shown_messages, text_added, text_by, text_of, texts_added, BuildPrint, Shown.Built, build_prints, build_prints_in, build_prints_with, built_by, built_of, plain_in, plains_in, plain_line, plain_of, print_by, strings_of}
+use Rattle.ttree_go_test.specs.GoTest.{GoState, acted, acted_for, all_ended, build_last, build_over, build_printed_if, build_emitted, builds_emitted, elapsed_in, test_or_package_ended, go_ends, go_takes, handed_out, output_kind, more_text, moved, nothing_run, package_ended, package_of, package_started, packages_left, printed, printed_if, ran, takes_json, tally_call, tally_fields, test_of, at_action_time, build_printed, takes_text}
+use Rattle.ttree_go_test.specs.Printed.{Print, Printed, ShowsEachLine, Shown, call_message, field_message, line_in, lines_in, messages, print_in, print_of, print_with, shown_message, shown_messages, text_added, text_by, test_text, texts_added, BuildPrint, Shown.Built, build_prints, build_prints_in, build_prints_with, built_by, built_of, plain_in, plains_in, plain_line, plain_of, print_by, strings_of}
 use Rattle.ttree_go_test.proofs.Laws.Printing.{Sends, sent}
 use Rattle.std.proofs.lemmas.Map.Text.{is_eq-slice_cmp}
 use Rattle.ttree_go_test.proofs.Laws.Stored.{AllAfter, IsSorted, bytes_same, none_after}
@@ -44,25 +44,25 @@ over_accounts ending path elapsed s w =
     let all = package_accounts ending path elapsed (build_over path s) w in
     record { items = all.items; cut = all.cut; sends = all.sends; builds = all.builds; no_other = all.no_other; well = all.well }
 
-ended_accounts : (ending : Ending) (path test : List ℕ) (elapsed : Option (List ℕ)) (s : GoState) → IsWell s.packages → Accounts [] s (ended ending path test elapsed s)
+ended_accounts : (ending : Ending) (path test : List ℕ) (elapsed : Option (List ℕ)) (s : GoState) → IsWell s.packages → Accounts [] s (test_or_package_ended ending path test elapsed s)
 ended_accounts ending path test elapsed s w =
     account_if (is_empty test) s (package_ended ending path elapsed (build_over path s)) _ (over_accounts ending path elapsed s w) (test_accounts ending path test elapsed s w)
 
 moved_accounts : (action path test : List ℕ) (elapsed : Option (List ℕ)) (s : GoState) → IsWell s.packages → Accounts [] s (moved action path test elapsed s)
 moved_accounts action path test elapsed s w =
     account_if (bytes_eq action (codes "run")) s (ran path test s) _ (ran_accounts path test s w)
-    (account_if (bytes_eq action (codes "pass") || bytes_eq action (codes "bench")) s (ended Passed path test elapsed s) _ (ended_accounts Passed path test elapsed s w)
-    (account_if (bytes_eq action (codes "fail")) s (ended Failed path test elapsed s) _ (ended_accounts Failed path test elapsed s w)
-    (account_if (bytes_eq action (codes "skip")) s (ended Skipped path test elapsed s) _ (ended_accounts Skipped path test elapsed s w)
+    (account_if (bytes_eq action (codes "pass") || bytes_eq action (codes "bench")) s (test_or_package_ended Passed path test elapsed s) _ (ended_accounts Passed path test elapsed s w)
+    (account_if (bytes_eq action (codes "fail")) s (test_or_package_ended Failed path test elapsed s) _ (ended_accounts Failed path test elapsed s w)
+    (account_if (bytes_eq action (codes "skip")) s (test_or_package_ended Skipped path test elapsed s) _ (ended_accounts Skipped path test elapsed s w)
     (account_if (bytes_eq action (codes "start")) s (package_started path s) s (started_accounts path s w)
     (same_accounts s s w (no_sends s))))))
 
 -- what a line does: it shows this, or it is unknown and adds nothing
 abbrev AllIf : List Printed → List BuildPrint → GoState → Option GoState → Type 0
-AllIf texts builds s None = ((q m : List ℕ) → text_of q m texts ≡ []) × (builds ≡ [])
+AllIf texts builds s None = ((q m : List ℕ) → test_text q m texts ≡ []) × (builds ≡ [])
 AllIf texts builds s (Some t) = All texts builds [] s t
 
-convert : (a b : List Printed) (c d : List BuildPrint) (s t : GoState) → ((q m : List ℕ) → text_of q m a ≡ text_of q m b) → c ≡ d → All a c [] s t → All b d [] s t
+convert : (a b : List Printed) (c d : List BuildPrint) (s t : GoState) → ((q m : List ℕ) → test_text q m a ≡ test_text q m b) → c ≡ d → All a c [] s t → All b d [] s t
 convert a b c d s t same alike h = record {
   items = h.items;
   cut = λ q m. h.cut q m ∙ ap (λ text. pending q m s ++ text) (same q m);
@@ -81,7 +81,7 @@ no_print action None string value is = none string where
   none (Some text) = refl
 no_print action (Some path) None value is = refl
 no_print action (Some path) (Some text) value is =
-    ap (λ b. if b then Some (record { path = path; test = test_of value; kind = kind_in value; string = text }) else None) is
+    ap (λ b. if b then Some (record { path = path; test = test_of value; kind = output_kind value; string = text }) else None) is
 
 -- and no string is of a build
 no_build_print : (action path : List ℕ) (string : Option (List ℕ)) → bytes_eq action (codes "build-output") ≡ false → build_prints_with (Some action) (Some path) string ≡ []
@@ -102,8 +102,8 @@ module _ (action path : List ℕ) (value : Json) (s : GoState) (w : IsWell s.pac
   builds_with string = build_prints_with (Some action) (Some path) string
 
   -- another action than `output` adds no text
-  no_text_with : (string : Option (List ℕ)) → bytes_eq action (codes "output") ≡ false → (q m : List ℕ) → text_of q m [] ≡ text_of q m (texts_with string)
-  no_text_with string is q m = ap (λ print. text_of q m (text_added s print)) (sym (no_print action (Some path) string value is))
+  no_text_with : (string : Option (List ℕ)) → bytes_eq action (codes "output") ≡ false → (q m : List ℕ) → test_text q m [] ≡ test_text q m (texts_with string)
+  no_text_with string is q m = ap (λ print. test_text q m (text_added s print)) (sym (no_print action (Some path) string value is))
 
   a_build_prints : (string : Option (List ℕ)) → bytes_eq action (codes "build-output") ≡ true → AllIf (texts_with string) (builds_with string) s (build_printed_if path string s)
   a_build_prints None is = (λ q m. refl, refl)
@@ -112,10 +112,10 @@ module _ (action path : List ℕ) (value : Json) (s : GoState) (w : IsWell s.pac
       (no_text_with (Some string) (not_both action is)) (ap (λ b. if b then record { path = path; string = string } ∷ [] else []) (sym is)) (build_printed_all path string s w ordered)
 
   a_test_prints : (string : Option (List ℕ)) → bytes_eq action (codes "output") ≡ true → bytes_eq action (codes "build-output") ≡ false →
-      AllIf (texts_with string) (builds_with string) s (printed_if (kind_in value) path (test_of value) string s)
+      AllIf (texts_with string) (builds_with string) s (printed_if (output_kind value) path (test_of value) string s)
   a_test_prints None is other = (λ q m. refl, refl)
   a_test_prints (Some string) is other =
-      let kind : Kind = kind_in value in
+      let kind : Kind = output_kind value in
       let test : List ℕ = test_of value in
       let built : GoState = build_emitted Warn path s in
       let t : GoState = printed kind path test string built in
@@ -124,7 +124,7 @@ module _ (action path : List ℕ) (value : Json) (s : GoState) (w : IsWell s.pac
       let print : Print = record { path = path; test = test; kind = kind; string = string } in
       let name : holder path test built ≡ holder path test s = same_holder Warn path test s w in
       convert texts (texts_with (Some string)) [] (builds_with (Some string)) s t
-      (λ q m. ap (λ n. text_of q m (text_by_kind kind path n string)) name ∙ ap (λ b. text_of q m (text_added s (if b then Some print else None))) (sym is))
+      (λ q m. ap (λ n. test_text q m (text_by_kind kind path n string)) name ∙ ap (λ b. test_text q m (text_added s (if b then Some print else None))) (sym is))
       (sym (no_build_print action path (Some string) other))
       (then_all [] texts [] [] [] [] s built t first (of_tests texts built t first.ordered (printed_accounts kind path test string built first.well)))
 
@@ -145,7 +145,7 @@ module _ (action path : List ℕ) (value : Json) (s : GoState) (w : IsWell s.pac
   acted_all : AllIf (texts_with output) (builds_with output) s (acted action path (test_of value) value s)
   acted_all = by (bytes_eq action (codes "build-output")) refl (bytes_eq action (codes "output")) refl (bytes_eq action (codes "build-fail")) where
     by : (a : Bool) → bytes_eq action (codes "build-output") ≡ a → (b : Bool) → bytes_eq action (codes "output") ≡ b → (c : Bool) → AllIf (texts_with output) (builds_with output) s
-        (if a then build_printed_if path output s else if b then printed_if (kind_in value) path (test_of value) output s else if c then Some (build_emitted Error path s)
+        (if a then build_printed_if path output s else if b then printed_if (output_kind value) path (test_of value) output s else if c then Some (build_emitted Error path s)
         else Some (moved action path (test_of value) (elapsed_in value) (build_emitted Warn path s)))
     by true is b other c = a_build_prints output is
     by false is true other c = a_test_prints output other is
@@ -163,7 +163,7 @@ json_all None path value s w ordered = (λ q m. refl, refl)
 -- Between two states these calls show all that isn't pending.
 record Runs (texts : List Printed) (builds : List BuildPrint) (plains : List (List ℕ)) (s t : GoState) (calls : List Call) : Type 0 where
   items : List Shown
-  cut : (q m : List ℕ) → text_of q m (lines_in items) ++ pending q m t ≡ pending q m s ++ text_of q m texts
+  cut : (q m : List ℕ) → test_text q m (lines_in items) ++ pending q m t ≡ pending q m s ++ test_text q m texts
   events : messages calls ≡ shown_messages items
   built : (q : List ℕ) → built_of q items ++ waiting q t ≡ waiting q s ++ strings_of q builds
   plain : plains_in items ≡ plains
@@ -172,7 +172,7 @@ record Runs (texts : List Printed) (builds : List BuildPrint) (plains : List (Li
   ordered : IsSorted t.builds
 
 -- nothing of it changes
-still_runs : (texts : List Printed) (builds : List BuildPrint) (s : GoState) → ((q m : List ℕ) → text_of q m texts ≡ []) → builds ≡ [] → s.calls ≡ [] → IsWell s.packages → IsSorted s.builds → Runs texts builds [] s s []
+still_runs : (texts : List Printed) (builds : List BuildPrint) (s : GoState) → ((q m : List ℕ) → test_text q m texts ≡ []) → builds ≡ [] → s.calls ≡ [] → IsWell s.packages → IsSorted s.builds → Runs texts builds [] s s []
 still_runs texts builds s none no_builds no_calls w ordered = record {
   items = [];
   cut = λ q m. sym (ap (λ text. pending q m s ++ text) (none q m) ∙ append-nil (pending q m s));
@@ -197,19 +197,20 @@ handed_all texts builds plains s t no_calls h = record {
   ordered = h.ordered;
 }
 
-handed_runs : (texts : List Printed) (builds : List BuildPrint) (value : Json) (s : GoState) (o : Option GoState) → s.calls ≡ [] → IsWell s.packages → IsSorted s.builds → AllIf texts builds (timed value s) o →
+handed_runs : (texts : List Printed) (builds : List BuildPrint) (value : Json) (s : GoState) (o : Option GoState) → s.calls ≡ [] → IsWell s.packages → IsSorted s.builds → AllIf texts builds (at_action_time value s) o →
     Runs texts builds [] s (interpreted_step s (option_map handed_out o)).source (interpreted_step s (option_map handed_out o)).calls
 handed_runs texts builds value s None no_calls w ordered h = still_runs texts builds s h.0 h.1 no_calls w ordered
 handed_runs texts builds value s (Some t) no_calls w ordered h =
-    let all = handed_all texts builds [] (timed value s) t no_calls h in
+    let all = handed_all texts builds [] (at_action_time value s) t no_calls h in
     record { items = all.items; cut = all.cut; events = all.events; built = all.built; plain = all.plain; no_calls = all.no_calls; well = all.well; ordered = all.ordered }
 
 value_runs : (line : List ℕ) (s : GoState) (o : Option Json) → s.calls ≡ [] → IsWell s.packages → IsSorted s.builds →
     Runs (text_added s (option_and_then print_in o)) (build_prints_in o) (plain_of line o) s (interpreted_step s (go_takes s line o)).source (interpreted_step s (go_takes s line o)).calls
 value_runs line s None no_calls w ordered = handed_all [] [] (plain_of line None) s (takes_text line s) no_calls (text_all line s w ordered)
 value_runs line s (Some value) no_calls w ordered =
-    handed_runs (text_added s (print_in value)) (build_prints_in (Some value)) value s (takes_json value (timed value s)) no_calls w ordered
-    (json_all (text_at (codes "Action") value) (package_of value) value (timed value s) w ordered)
+    handed_runs (text_added s (print_in value)) (build_prints_in (Some value)) value s (takes_json value (at_action_time value s)) no_calls w ordered
+    (json_all (text_at (codes "Action") value) (package_of value) value
+    (at_action_time value s) w ordered)
 
 line_runs : (line : List ℕ) (s : GoState) → s.calls ≡ [] → IsWell s.packages → IsSorted s.builds →
     Runs (text_added s (print_of line)) (build_prints line) (plain_line line) s (interpret_line go_takes s line).source (interpret_line go_takes s line).calls
@@ -232,7 +233,7 @@ then_runs : (a b : List Printed) (c d : List BuildPrint) (e f : List (List ℕ))
 then_runs a b c d e f s t u one two h k = record {
   items = h.items ++ k.items;
   cut = λ q m. ap (λ text. text ++ pending q m u) (lines_then q m h.items k.items)
-      ∙ cut_then (text_of q m (lines_in h.items)) (text_of q m (lines_in k.items)) (pending q m s) (pending q m t) (pending q m u) (text_of q m a) (text_of q m b) (h.cut q m) (k.cut q m)
+      ∙ cut_then (test_text q m (lines_in h.items)) (test_text q m (lines_in k.items)) (pending q m s) (pending q m t) (pending q m u) (test_text q m a) (test_text q m b) (h.cut q m) (k.cut q m)
       ∙ ap (λ text. pending q m s ++ text) (sym (flat_map-append (text_by q m) a b));
   events = messages_then one two h.items k.items h.events k.events;
   built = λ q. ap (λ front. front ++ waiting q u) (flat_map-append (built_by q) h.items k.items)
@@ -260,8 +261,8 @@ no_message : (s : GoState) → call_message (tally_call s) ≡ []
 no_message s = by (is_empty s.failing.packages) (is_empty s.failing.tests) where
   fields : Bool → Bool → List Field
   fields a b =
-      (if a then [] else record { name = codes "failed_packages"; value = shown (s.failing.packages ++ more_text s.tally.packages_failed) } ∷ [])
-      ++ (if b then [] else record { name = codes "failed_tests"; value = shown (s.failing.tests ++ more_text s.tally.failed) } ∷ [])
+      (if a then [] else record { name = codes "failed_packages"; value = shown_text (s.failing.packages ++ more_text s.tally.packages_failed) } ∷ [])
+      ++ (if b then [] else record { name = codes "failed_tests"; value = shown_text (s.failing.tests ++ more_text s.tally.failed) } ∷ [])
 
   by : (a b : Bool) → field_message (tally_fields s.tally ++ fields a b) ≡ []
   by true true = refl
@@ -311,7 +312,7 @@ builds_show ((path, build) ∷ others) s h =
 -- what the end shows is all that is pending
 record EndShows (s : GoState) (calls : List Call) : Type 0 where
   items : List Shown
-  text : (q m : List ℕ) → text_of q m (lines_in items) ≡ pending q m s
+  text : (q m : List ℕ) → test_text q m (lines_in items) ≡ pending q m s
   built : (q : List ℕ) → built_of q items ≡ waiting q s
   plain : plains_in items ≡ []
   events : messages calls ≡ shown_messages items
@@ -325,8 +326,8 @@ end_shows s no_calls w ordered =
     let ends : GoState = all_ended s in
     record {
       items = leaves.items ++ builds.items;
-      text = λ q m. lines_then q m leaves.items builds.items ∙ ap (λ x. text_of q m (lines_in leaves.items) ++ text_of q m x) builds.no_line
-          ∙ append-nil (text_of q m (lines_in leaves.items)) ∙ leaves.text q m;
+      text = λ q m. lines_then q m leaves.items builds.items ∙ ap (λ x. test_text q m (lines_in leaves.items) ++ test_text q m x) builds.no_line
+          ∙ append-nil (test_text q m (lines_in leaves.items)) ∙ leaves.text q m;
       built = λ q. flat_map-append (built_by q) leaves.items builds.items ∙ ap (λ x. x ++ built_of q builds.items) (built_nothing q leaves.items leaves.no_other) ∙ builds.built q;
       plain = flat_map-append plain_in leaves.items builds.items ∙ ap (λ x. x ++ plains_in builds.items) (plain_nothing leaves.items leaves.no_other) ∙ builds.no_plain;
       events = flat_map-append call_message ends.calls (tally_call ends ∷ [])
@@ -347,7 +348,7 @@ each_line_shown next moment lines =
     record {
       items = run.items ++ end.items;
       events = messages_then interpreted.calls (go_ends interpreted.source) run.items end.items run.events end.events;
-      printed_once = λ q m. lines_then q m run.items end.items ∙ ap (λ text. text_of q m (lines_in run.items) ++ text) (end.text q m) ∙ run.cut q m;
+      printed_once = λ q m. lines_then q m run.items end.items ∙ ap (λ text. test_text q m (lines_in run.items) ++ text) (end.text q m) ∙ run.cut q m;
       built_once = λ q. flat_map-append (built_by q) run.items end.items ∙ ap (λ x. built_of q run.items ++ x) (end.built q) ∙ run.built q;
       plain_once = flat_map-append plain_in run.items end.items ∙ ap (λ x. plains_in run.items ++ x) end.plain ∙ append-nil (plains_in run.items) ∙ run.plain;
     }

@@ -10,8 +10,8 @@ use Rattle.ttree_go_test.specs.declared.go_test.running.Running.{Running}
 use Rattle.ttree_go_test.specs.declared.go_test.tally.Ending.{Ending}
 use Rattle.ttree_go_test.specs.declared.go_test.tally.Ending.TheVariants.{Unfinished}
 use Rattle.ttree_go_test.specs.Names.{named, without}
-use Rattle.ttree_go_test.specs.GoTest.{GoState, Tests, all_left_over, holds, left_as, left_one, left_over, package_counted, package_ended, package_left, package_over, packages_left, placed, running_as, tests_of, without_package}
-use Rattle.ttree_go_test.specs.Printed.{Shown, lines_in, shown_message, shown_messages, text_of}
+use Rattle.ttree_go_test.specs.GoTest.{GoState, Tests, all_left_over, holds, left_as, left_one, left_over, package_counted, package_ended, package_left, package_over, packages_left, running_as, test_placed, tests_of, without_package}
+use Rattle.ttree_go_test.specs.Printed.{Shown, lines_in, shown_message, shown_messages, test_text}
 use Rattle.ttree_go_test.proofs.Laws.Printing.{Finishes, Sends, finished_shows, lines_of_its, none_sent, sent, then_sends, no_other_lines, no_others_then, others_in}
 use Rattle.ttree_go_test.proofs.Laws.Stored.{AllAfter, IsSorted, bytes_same, cmp, found_without, none_after, none_without}
 use Rattle.ttree_go_test.proofs.Laws.Accounts.{Accounts, if_nil, lines_then, part_by, part_of, pending, placed_by, same_accounts, text_ended, then_accounts}
@@ -21,7 +21,7 @@ use Rattle.ttree_go_test.proofs.Laws.WellKept.{AllWell, ArePlaced, AreWell, IfPl
 -- The pending text of these tests of a package is shown.
 pub record Leaves (path : List ℕ) (tests : Tests) (s t : GoState) : Type 0 where
   pub items : List Shown
-  pub text : (q m : List ℕ) → text_of q m (lines_in items) ≡ (if bytes_eq q path then part_of (named m tests) else [])
+  pub text : (q m : List ℕ) → test_text q m (lines_in items) ≡ (if bytes_eq q path then part_of (named m tests) else [])
   pub sends : Sends s t (shown_messages items)
   pub no_other : others_in items ≡ []
 
@@ -40,7 +40,7 @@ ended_items one s t f = lines_of_its one f.lines ++ f.ends
 
 -- the text of its end is that of this test
 end_text : (q m path name : List ℕ) (one : Running) (s t : GoState) → IsPlaced path name one → (f : Finishes (holds one s) t) →
-    text_of q m (lines_in (ended_items one s t f)) ≡ (if bytes_eq q path && bytes_eq m name then one.part else [])
+    test_text q m (lines_in (ended_items one s t f)) ≡ (if bytes_eq q path && bytes_eq m name then one.part else [])
 end_text q m path name one s t is f =
     text_ended q m one f.lines f.ends f.no_line
     ∙ ap (λ text. if bytes_eq q one.path && bytes_eq m one.test then text else []) f.cut
@@ -72,14 +72,14 @@ left_leaves path ending root earlier [] s p h = none_left path s
 left_leaves path ending root earlier (test ∷ later) s p h =
     let rest : GoState = left_over ending root (earlier ++ test ∷ []) later s in
     let others = left_leaves path ending root (earlier ++ test ∷ []) later s p.1 h.1 in
-    let one : Running = placed root earlier test.1 in
+    let one : Running = test_placed root earlier test.1 in
     let at : GoState = left_one ending one rest in
     let ends = left_finishes ending one rest p.0.2 in
     record {
       items = others.items ++ ended_items one rest at ends;
       no_other = no_others_then others.items (ended_items one rest at ends) others.no_other (no_others_then (lines_of_its one ends.lines) ends.ends (no_other_lines one ends.lines) ends.no_other);
       text = λ q m. lines_then q m others.items (ended_items one rest at ends)
-          ∙ ap (λ text. text ++ text_of q m (lines_in (ended_items one rest at ends))) (others.text q m)
+          ∙ ap (λ text. text ++ test_text q m (lines_in (ended_items one rest at ends))) (others.text q m)
           ∙ ap (λ text. (if bytes_eq q path then part_of (named m later) else []) ++ text) (end_text q m path test.0 one rest at (p.0.0, p.0.1, p.0.2, p.0.3) ends)
           ∙ first_and q m path test.0 test.1 later h.0;
       sends = both_send s rest at others.items (ended_items one rest at ends) others.sends ends.sends;
@@ -108,7 +108,7 @@ own_leaves path tests own s at t sorted is part_is others ends = record {
   items = others.items ++ ended_items own at t ends;
   no_other = no_others_then others.items (ended_items own at t ends) others.no_other (no_others_then (lines_of_its own ends.lines) ends.ends (no_other_lines own ends.lines) ends.no_other);
   text = λ q m. lines_then q m others.items (ended_items own at t ends)
-      ∙ ap (λ text. text ++ text_of q m (lines_in (ended_items own at t ends))) (others.text q m)
+      ∙ ap (λ text. text ++ test_text q m (lines_in (ended_items own at t ends))) (others.text q m)
       ∙ ap (λ text. (if bytes_eq q path then part_of (named m (without [] tests)) else []) ++ text) (end_text q m path [] own at t is ends)
       ∙ own_and q m path own.part tests sorted part_is;
   sends = both_send s at t others.items (ended_items own at t ends) others.sends ends.sends;
@@ -213,7 +213,7 @@ package_leaves path tests s (Some own) well is =
 -- The pending text of all these packages is shown.
 pub record LeavesAll (packages : List (List ℕ × Tests)) (s t : GoState) : Type 0 where
   pub items : List Shown
-  pub text : (q m : List ℕ) → text_of q m (lines_in items) ≡ part_of (found q m packages)
+  pub text : (q m : List ℕ) → test_text q m (lines_in items) ≡ part_of (found q m packages)
   pub sends : Sends s t (shown_messages items)
   pub no_other : others_in items ≡ []
 
@@ -241,7 +241,7 @@ packages_leave ((path, tests) ∷ others) s h sorted =
       items = first.items ++ rest.items;
       no_other = no_others_then first.items rest.items first.no_other rest.no_other;
       text = λ q m. lines_then q m first.items rest.items
-          ∙ ap (λ text. text ++ text_of q m (lines_in rest.items)) (first.text q m)
+          ∙ ap (λ text. text ++ test_text q m (lines_in rest.items)) (first.text q m)
           ∙ ap (λ text. (if bytes_eq q path then part_of (named m tests) else []) ++ text) (rest.text q m)
           ∙ one_and q m path tests others sorted.0;
       sends = both_send s at t first.items rest.items first.sends rest.sends;

@@ -10,7 +10,7 @@ use Rattle.ttree_source.specs.Marks.{is_empty}
 use Rattle.ttree_go_test.specs.Names.{named, without}
 use Rattle.ttree_go_test.specs.Texts.{ends_word}
 use Rattle.ttree_go_test.specs.Nesting.{IsAlone, IsAtOrIn, IsIn, IsNearest, IsParent, TakesPrinted}
-use Rattle.ttree_go_test.specs.GoTest.{GoState, Tests, held, outer_within, owner, owner_within, running_as, shown_at, span_in, span_of, tests_of, with_span}
+use Rattle.ttree_go_test.specs.GoTest.{GoState, Tests, held_test, if_has_span, outer_span, outer_within, owner, owner_within, running_as, shown_at, span_of_test, tests_of}
 use Rattle.ttree_go_test.proofs.Laws.Stored.{bytes_same, found_without, none_without}
 use Rattle.ttree_go_test.proofs.Laws.Accounts.{held_holds, holder}
 use Rattle.ttree_go_test.proofs.Laws.Printing.{nil_if_empty}
@@ -21,10 +21,10 @@ span_of_it o = option_and_then (λ (one : Running). one.span) o
 
 -- what is found among the prefixes of at most n bytes
 abbrev Within : Tests → List ℕ → ℕ → Option Running → Type 0
-Within tests test n None = (k : ℕ) → 0 < k → k ≤ n → ends_word 47 (drop k test) ≡ true → span_in tests (take k test) ≡ None
+Within tests test n None = (k : ℕ) → 0 < k → k ≤ n → ends_word 47 (drop k test) ≡ true → span_of_test tests (take k test) ≡ None
 Within tests test n (Some one) =
-    (k : ℕ) × (span : Id) × (0 < k) × (k ≤ n) × (ends_word 47 (drop k test) ≡ true) × (span_in tests (take k test) ≡ Some span) × (one.span ≡ Some span)
-    × ((j : ℕ) → k < j → j ≤ n → ends_word 47 (drop j test) ≡ true → span_in tests (take j test) ≡ None)
+    (k : ℕ) × (span : Id) × (0 < k) × (k ≤ n) × (ends_word 47 (drop k test) ≡ true) × (span_of_test tests (take k test) ≡ Some span) × (one.span ≡ Some span)
+    × ((j : ℕ) → k < j → j ≤ n → ends_word 47 (drop j test) ≡ true → span_of_test tests (take j test) ≡ None)
 
 -- of what is found, this is known
 record ShownAt (e : Bool) (o : Option Running) (one : Running) : Type 0 where
@@ -33,7 +33,7 @@ record ShownAt (e : Bool) (o : Option Running) (one : Running) : Type 0 where
   shows : span_of_it o ≡ Some span
   is : one.span ≡ Some span
 
-with_span_is : (o : Option Running) (one : Running) → with_span o ≡ Some one → ShownAt true o one
+with_span_is : (o : Option Running) (one : Running) → if_has_span o ≡ Some one → ShownAt true o one
 with_span_is None one h = cc
 with_span_is (Some other) one h = by other.span refl where
   kept : Option Id → Option Running
@@ -45,11 +45,11 @@ with_span_is (Some other) one h = by other.span refl where
       let same : Some other ≡ Some one = ap kept (sym is) ∙ h in
       record { ends = refl; span = id; shows = is; is = sym (ap span_of_it same) ∙ is }
 
-shown_is : (e : Bool) (o : Option Running) (one : Running) → (if e then with_span o else None) ≡ Some one → ShownAt e o one
+shown_is : (e : Bool) (o : Option Running) (one : Running) → (if e then if_has_span o else None) ≡ Some one → ShownAt e o one
 shown_is true o one h = with_span_is o one h
 shown_is false o one h = cc
 
-none_is : (e : Bool) (o : Option Running) → (if e then with_span o else None) ≡ None → e ≡ true → span_of_it o ≡ None
+none_is : (e : Bool) (o : Option Running) → (if e then if_has_span o else None) ≡ None → e ≡ true → span_of_it o ≡ None
 none_is true None h is = refl
 none_is true (Some one) h is = by one.span h where
   by : (span : Option Id) → (if is_some span then Some one else None) ≡ None → span ≡ None
@@ -63,17 +63,17 @@ below_or_at j n h = by (nat_le j n) refl where
   by true is = inl (grind (arith, nat_tests))
   by false is = inr (grind (arith, nat_tests))
 
-one_longer : (tests : Tests) (test : List ℕ) (n : ℕ) (r : Option Running) → (ends_word 47 (drop (suc n) test) ≡ true → span_in tests (take (suc n) test) ≡ None) →
+one_longer : (tests : Tests) (test : List ℕ) (n : ℕ) (r : Option Running) → (ends_word 47 (drop (suc n) test) ≡ true → span_of_test tests (take (suc n) test) ≡ None) →
     Within tests test n r → Within tests test (suc n) r
 one_longer tests test n None here h = λ k low high is. by k low is (below_or_at k n high) where
-  by : (k : ℕ) → 0 < k → ends_word 47 (drop k test) ≡ true → (k ≤ n) ⊎ (k ≡ suc n) → span_in tests (take k test) ≡ None
+  by : (k : ℕ) → 0 < k → ends_word 47 (drop k test) ≡ true → (k ≤ n) ⊎ (k ≡ suc n) → span_of_test tests (take k test) ≡ None
   by k low is (inl less) = h k low less is
-  by k low is (inr at) = ap (λ i. span_in tests (take i test)) at ∙ here (ap (λ i. ends_word 47 (drop i test)) (sym at) ∙ is)
+  by k low is (inr at) = ap (λ i. span_of_test tests (take i test)) at ∙ here (ap (λ i. ends_word 47 (drop i test)) (sym at) ∙ is)
 one_longer tests test n (Some one) here (k, span, low, high, is, shows, same, nearest) =
     (k, span, low, omega arith, is, shows, same, λ j after upto ends. by j after ends (below_or_at j n upto)) where
-      by : (j : ℕ) → k < j → ends_word 47 (drop j test) ≡ true → (j ≤ n) ⊎ (j ≡ suc n) → span_in tests (take j test) ≡ None
+      by : (j : ℕ) → k < j → ends_word 47 (drop j test) ≡ true → (j ≤ n) ⊎ (j ≡ suc n) → span_of_test tests (take j test) ≡ None
       by j after ends (inl less) = nearest j after less ends
-      by j after ends (inr at) = ap (λ i. span_in tests (take i test)) at ∙ here (ap (λ i. ends_word 47 (drop i test)) (sym at) ∙ ends)
+      by j after ends (inr at) = ap (λ i. span_of_test tests (take i test)) at ∙ here (ap (λ i. ends_word 47 (drop i test)) (sym at) ∙ ends)
 
 within : (tests : Tests) (test : List ℕ) (n : ℕ) → Within tests test n (outer_within tests test n)
 within tests test zero = λ k low high is. absurd (omega arith)
@@ -143,12 +143,12 @@ IsParentBy others root test parent =
     ⊎ (IsAlone others test × (parent ≡ root))
 
 parent_by : (others : Tests) (root : Option Id) (test : List ℕ) (r : Option Running) → named test others ≡ None → Within others test (length test) r →
-    IsParentBy others root test (span_of root r)
+    IsParentBy others root test (outer_span root r)
 parent_by others root test None none h = inr (alone, refl) where
   alone : IsAlone others test
   alone outer inside =
       let at = ends_at test outer inside in
-      sym (ap (span_in others) at.front) ∙ h (length outer) at.some (omega (arith, at.shorter)) at.ends
+      sym (ap (span_of_test others) at.front) ∙ h (length outer) at.some (omega (arith, at.shorter)) at.ends
 parent_by others root test (Some one) none (k, span, low, high, ends, shows, same, nearest) = inl (
   take k test,
   span,
@@ -157,14 +157,14 @@ parent_by others root test (Some one) none (k, span, low, high, ends, shows, sam
     shows = shows;
     nearest = λ other inside longer.
         let at = ends_at test other inside in
-        sym (ap (span_in others) at.front) ∙ nearest (length other) (omega (arith, longer, length-take-le k test high)) (omega (arith, at.shorter)) at.ends;
+        sym (ap (span_of_test others) at.front) ∙ nearest (length other) (omega (arith, longer, length-take-le k test high)) (omega (arith, at.shorter)) at.ends;
   },
   same,
 ) where
   itself : drop k test ≡ [] → ⊥
   itself no_rest =
       let whole : take k test ≡ test = sym (append-nil (take k test)) ∙ ap (λ more. take k test ++ more) (sym no_rest) ∙ take-append-drop k test in
-      let e : None ≡ Some span = sym (ap span_of_it none) ∙ ap (span_in others) (sym whole) ∙ shows in
+      let e : None ≡ Some span = sym (ap span_of_it none) ∙ ap (span_of_test others) (sym whole) ∙ shows in
       cc
 
 -- ---- among all that run
@@ -179,7 +179,7 @@ nil_differs : (test : List ℕ) → is_empty test ≡ false → bytes_eq [] test
 nil_differs [] h = let k : true ≡ false = h in cc
 nil_differs (b ∷ test) h = refl
 
-parent_among : (tests : Tests) (test : List ℕ) (parent : Option Id) → is_empty test ≡ false → IsParentBy (without test tests) (span_in (without test tests) []) test parent → IsParent tests test parent
+parent_among : (tests : Tests) (test : List ℕ) (parent : Option Id) → is_empty test ≡ false → IsParentBy (without test tests) (span_of_test (without test tests) []) test parent → IsParent tests test parent
 parent_among tests test parent full (inl (outer, span, near, is)) = inl (
   outer,
   span,
@@ -198,31 +198,31 @@ parent_among tests test parent full (inr (alone, is)) =
 
 -- What is taken out for a test is nested in its nearest running ancestor that has a span.
 pub nested_in : (path test : List ℕ) (s : GoState) → IsWell s.packages → is_empty (holder path test s) ≡ false →
-    IsParent (tests_of path s) (holder path test s) (held path test s).one.parent
-unfolding held
+    IsParent (tests_of path s) (holder path test s) (held_test path test s).one.parent
+unfolding held_test
 nested_in path test s w full =
     let name : List ℕ = holder path test s in
     let tests : Tests = tests_of path s in
     let others : Tests = without name tests in
     let one : Running = running_as path name tests in
-    let root : Option Id = span_in others [] in
+    let root : Option Id = span_of_test others [] in
     let is : one.test ≡ name = (held_holds path test s w).test_is in
-    let P : List ℕ → Type 0 = λ n. IsParentBy others root name (span_of root (outer_within others n (length n))) in
-    parent_among tests name (span_of root (outer_within others one.test (length one.test))) full
+    let P : List ℕ → Type 0 = λ n. IsParentBy others root name (outer_span root (outer_within others n (length n))) in
+    parent_among tests name (outer_span root (outer_within others one.test (length one.test))) full
     (subst P (sym is) (parent_by others root name (outer_within others name (length name)) (none_without name tests (well_found path s.packages w).sorted) (within others name (length name))))
 
 -- A package is at the root.
-pub package_place : (path test : List ℕ) (s : GoState) → IsWell s.packages → is_empty (holder path test s) ≡ true → (held path test s).one.parent ≡ None
-unfolding held
+pub package_place : (path test : List ℕ) (s : GoState) → IsWell s.packages → is_empty (holder path test s) ≡ true → (held_test path test s).one.parent ≡ None
+unfolding held_test
 package_place path test s w empty =
     let tests : Tests = tests_of path s in
     let name : List ℕ = holder path test s in
     let none : name ≡ [] = nil_if_empty name empty in
     let is : (running_as path name tests).test ≡ [] = (held_holds path test s w).test_is ∙ none in
     let others : Tests = without name tests in
-    let root : Option Id = span_in others [] in
-    ap (λ n. span_of root (outer_within others n (length n))) is
-    ∙ ap (λ n. span_in (without n tests) []) none
+    let root : Option Id = span_of_test others [] in
+    ap (λ n. outer_span root (outer_within others n (length n))) is
+    ∙ ap (λ n. span_of_test (without n tests) []) none
     ∙ ap span_of_it (none_without [] tests (well_found path s.packages w).sorted)
 
 -- ---- what takes a string

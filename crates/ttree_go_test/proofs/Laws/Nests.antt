@@ -6,7 +6,7 @@ use Rattle.ttree_go_test.specs.declared.go_test.tally.Ending.TheVariants.{Unfini
 use Rattle.ttree_source.specs.Marks.{is_empty}
 use Rattle.ttree_go_test.specs.Names.{named}
 use Rattle.ttree_go_test.specs.Nesting.{IsPlace, PlacesCalls}
-use Rattle.ttree_go_test.specs.GoTest.{GoState, Held, Tests, above_held, begun_in, held, left_one, opened, part_emitted, printed, ran, started, tests_of, go_takes, nothing_run, kind_in}
+use Rattle.ttree_go_test.specs.GoTest.{GoState, Held, Tests, above_held, begun_in, held_test, left_one, held_opened, part_emitted, printed, ran, started, tests_of, go_takes, nothing_run, output_kind}
 use Rattle.ttree_go_test.proofs.Laws.Accounts.{held_holds, holder}
 use Rattle.ttree_go_test.proofs.Laws.NestedIn.{nested_in, package_place, takes_printed}
 use Rattle.tracing_tree_base.specs.declared.context.Moment.{Moment}
@@ -17,9 +17,9 @@ use Rattle.ttree_go_test.proofs.Laws.Placing.{opens_in, prints_in}
 use Rattle.ttree_go_test.proofs.Laws.Stored.{bytes_same}
 use Rattle.ttree_go_test.proofs.Laws.WellKept.{IsWell, owner_runs}
 
-place_is : (path test : List ℕ) (s : GoState) → IsWell s.packages → IsPlace (tests_of path s) (holder path test s) (held path test s).one.parent
+place_is : (path test : List ℕ) (s : GoState) → IsWell s.packages → IsPlace (tests_of path s) (holder path test s) (held_test path test s).one.parent
 place_is path test s w = by (is_empty (holder path test s)) refl where
-  by : (b : Bool) → is_empty (holder path test s) ≡ b → IsPlace (tests_of path s) (holder path test s) (held path test s).one.parent
+  by : (b : Bool) → is_empty (holder path test s) ≡ b → IsPlace (tests_of path s) (holder path test s) (held_test path test s).one.parent
   by true is = inl (is, package_place path test s w is)
   by false is = inr (is, nested_in path test s w is)
 
@@ -30,7 +30,7 @@ printed_places kind path test text s w =
     record {
       name = holder path test s;
       takes = takes_printed (tests_of path s) test;
-      parent = (held path test s).one.parent;
+      parent = (held_test path test s).one.parent;
       place = place_is path test s w;
       calls = prints.more;
       adds = prints.calls;
@@ -43,11 +43,11 @@ unfolding above_held
 ran_places path test s w none =
     let tests : Tests = tests_of path s in
     let name : List ℕ = holder path test s in
-    let h : Held = held path test s in
+    let h : Held = held_test path test s in
     let is = held_holds path test s w in
     let opens = opens_in path test s w (differs (bytes_eq name test) refl) in
     let stays : (is_empty test || not (bytes_eq h.one.test test)) ≡ true = first (is_empty test) refl in
-    let P : Bool → Type 0 = λ b. PlacesCalls path test s (begun_in path test (started (opened (part_emitted (if b then h else held path test (left_one Unfinished h.one h.state)))))) in
+    let P : Bool → Type 0 = λ b. PlacesCalls path test s (begun_in path test (started (held_opened (part_emitted (if b then h else held_test path test (left_one Unfinished h.one h.state)))))) in
     subst P (sym stays) (record {
       name = name;
       takes = takes_printed tests test;
@@ -66,7 +66,7 @@ ran_places path test s w none =
           let e : true ≡ false = sym (ap is_empty empty) ∙ full in
           cc
 
-      first : (b : Bool) → is_empty test ≡ b → (b || not (bytes_eq (held path test s).one.test test)) ≡ true
+      first : (b : Bool) → is_empty test ≡ b → (b || not (bytes_eq (held_test path test s).one.test test)) ≡ true
       first true is = refl
       first false is =
           ap (λ c. not c) (ap (λ n. bytes_eq n test) (held_holds path test s w).test_is ∙ differs (bytes_eq (holder path test s) test) refl is)
@@ -77,8 +77,8 @@ abbrev after : ℕ → Moment → List (List ℕ) → GoState
 after next moment lines = (interpret go_takes (nothing_run next moment) lines).source
 
 pub printed_after : (next : ℕ) (moment : Moment) (before : List (List ℕ)) (value : Json) (path test text : List ℕ) →
-    PlacesCalls path test (after next moment before) (printed (kind_in value) path test text (after next moment before))
-printed_after next moment before value path test text = printed_places (kind_in value) path test text (after next moment before) (reached_well next moment before)
+    PlacesCalls path test (after next moment before) (printed (output_kind value) path test text (after next moment before))
+printed_after next moment before value path test text = printed_places (output_kind value) path test text (after next moment before) (reached_well next moment before)
 
 pub ran_after : (next : ℕ) (moment : Moment) (before : List (List ℕ)) (path test : List ℕ) → named test (tests_of path (after next moment before)) ≡ None →
     PlacesCalls path test (after next moment before) (ran path test (after next moment before))

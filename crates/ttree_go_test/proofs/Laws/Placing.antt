@@ -13,7 +13,7 @@ use Rattle.ttree_source.specs.Marks.{is_empty}
 use Rattle.ttree_source.specs.Calls.{event_call, message_field, span_call}
 use Rattle.ttree_go_test.specs.Texts.{ends_line, is_frame, without_line_end}
 use Rattle.ttree_go_test.specs.Nesting.{ArePlacedCalls, IsPlacedCall}
-use Rattle.ttree_go_test.specs.GoTest.{GoState, Held, begun, begun_in, fails_as, frame_printed, framed, held, holds, is_framing, kept, level_of_line, line_of, line_emitted, more_printed, noted, opened, opened_as, part_emitted, printed, said, span_in, started, string_printed, tests_of, text_printed, emitted}
+use Rattle.ttree_go_test.specs.GoTest.{GoState, Held, new_running, begun_in, fails_as, frame_printed, framed, held_test, holds, is_framing, test_kept, level_of_line, line_reported, part_line_emitted, more_printed, end_noted, held_opened, opened_as, part_emitted, printed, said, span_of_test, started, string_printed, tests_of, text_printed, emitted_with_last}
 use Rattle.ttree_go_test.proofs.Laws.Accounts.{Holds, held_holds, holder, started_holds}
 use Rattle.ttree_go_test.proofs.Laws.Printing.{opened_cut, part_cut, started_cut, string_cut}
 use Rattle.ttree_go_test.proofs.Laws.Stored.{same_bytes}
@@ -65,10 +65,10 @@ opened_by h None is = record {
   placed = (refl, tt);
 }
 
-opened_places : (h : Held) → Places h (opened h)
+opened_places : (h : Held) → Places h (held_opened h)
 opened_places h = opened_by h h.one.span refl
 
-has_span : (h : Held) → is_some (opened h).one.span ≡ true
+has_span : (h : Held) → is_some (held_opened h).one.span ≡ true
 has_span h = by h.one.span refl where
   by : (span : Option Id) → h.one.span ≡ span → is_some (opened_as span h).one.span ≡ true
   by None is = refl
@@ -76,7 +76,7 @@ has_span h = by h.one.span refl where
 
 said_places : (level : Level) (text : List ℕ) (h : Held) → is_some h.one.span ≡ true → Places h (said level text h)
 said_places level text h some = by (is_skipped text) where
-  by : (b : Bool) → Places h (record h { state = if b then h.state else emitted h.one.span (event_call h.state.moment level (message_field text ∷ []) h.one.span) h.state })
+  by : (b : Bool) → Places h (record h { state = if b then h.state else emitted_with_last h.one.span (event_call h.state.moment level (message_field text ∷ []) h.one.span) h.state })
   by true = stays h
   by false = record {
     more = event_call h.state.moment level (message_field text ∷ []) h.one.span ∷ [];
@@ -86,23 +86,23 @@ said_places level text h some = by (is_skipped text) where
     placed = ((refl, some), tt);
   }
 
-framed_by : (b : Bool) (line : List ℕ) (h : Held) → Places h (if b then record h { one = noted line h.one } else h)
+framed_by : (b : Bool) (line : List ℕ) (h : Held) → Places h (if b then record h { one = end_noted line h.one } else h)
 framed_by true line h = record { more = []; calls = sym (append-nil h.state.calls); parent = refl; keeps = λ _. refl; placed = tt }
 framed_by false line h = stays h
 
 framed_places : (line : List ℕ) (h : Held) → Places h (framed line h)
 framed_places line h = framed_by (is_empty h.one.test) line h
 
-line_places : (level : Level) (text : List ℕ) (h : Held) → Places h (line_of level text h)
+line_places : (level : Level) (text : List ℕ) (h : Held) → Places h (line_reported level text h)
 line_places level text h = by (is_frame h.one.test (without_line_end text)) where
   line : List ℕ
   line = without_line_end text
 
-  by : (b : Bool) → Places h (if b then framed line h else said level line (opened h))
+  by : (b : Bool) → Places h (if b then framed line h else said level line (held_opened h))
   by true = framed_places line h
-  by false = then_places h (opened h) (said level line (opened h)) (opened_places h) (said_places level line (opened h) (has_span h))
+  by false = then_places h (held_opened h) (said level line (held_opened h)) (opened_places h) (said_places level line (held_opened h) (has_span h))
 
-emitted_places : (h : Held) → Places h (line_emitted h)
+emitted_places : (h : Held) → Places h (part_line_emitted h)
 emitted_places h =
     let bare : Held = record h { one = record h.one { part = []; is_error = false } } in
     let line = line_places (level_of_line h.one.is_error) h.one.part bare in
@@ -110,7 +110,7 @@ emitted_places h =
 
 pub part_places : (h : Held) → Places h (part_emitted h)
 part_places h = by (is_empty h.one.part) where
-  by : (b : Bool) → Places h (if b then h else line_emitted h)
+  by : (b : Bool) → Places h (if b then h else part_line_emitted h)
   by true = stays h
   by false = emitted_places h
 
@@ -122,8 +122,8 @@ text_places is_error text h = by (ends_line text) where
   first : Places h more
   first = record { more = []; calls = sym (append-nil h.state.calls); parent = refl; keeps = λ _. refl; placed = tt }
 
-  by : (b : Bool) → Places h (if b then line_emitted more else more)
-  by true = then_places h more (line_emitted more) first (emitted_places more)
+  by : (b : Bool) → Places h (if b then part_line_emitted more else more)
+  by true = then_places h more (part_line_emitted more) first (emitted_places more)
   by false = first
 
 string_places : (kind : Kind) (text : List ℕ) (h : Held) → Places h (string_printed kind text h)
@@ -140,14 +140,14 @@ span_of_it o = option_and_then (λ (one : Running). one.span) o
 pub record PrintsIn (path name : List ℕ) (parent : Option Id) (s t : GoState) : Type 0 where
   pub more : List Call
   pub calls : t.calls ≡ s.calls ++ more
-  pub placed : ArePlacedCalls parent (span_in (tests_of path t) name) more
+  pub placed : ArePlacedCalls parent (span_of_test (tests_of path t) name) more
 
 -- the span of what is put back
 kept_span : (path name : List ℕ) (s : GoState) (h k : Held) → Holds path name s h → k.one.path ≡ h.one.path → k.one.test ≡ h.one.test → k.state.packages ≡ h.state.packages →
-    span_in (tests_of path (kept k)) name ≡ k.one.span
-unfolding kept
+    span_of_test (tests_of path (test_kept k)) name ≡ k.one.span
+unfolding test_kept
 kept_span path name s h k is same_path same_test same_packages =
-    let all : (kept k).packages ≡ filled path name k.one (emptied path name s.packages) =
+    let all : (test_kept k).packages ≡ filled path name k.one (emptied path name s.packages) =
     ap (λ x. filled x k.one.test k.one k.state.packages) (same_path ∙ is.path_is) ∙ ap (λ x. filled path x k.one k.state.packages) (same_test ∙ is.test_is)
     ∙ ap (filled path name k.one) (same_packages ∙ is.packages) in
     ap (λ packages. span_of_it (found path name packages)) all
@@ -156,42 +156,42 @@ kept_span path name s h k is same_path same_test same_packages =
     ∙ ap (λ b. span_of_it (if b then Some k.one else found path name s.packages)) (same_bytes name name refl)
 
 pub prints_in : (kind : Kind) (path test text : List ℕ) (s : GoState) → IsWell s.packages →
-    PrintsIn path (holder path test s) (held path test s).one.parent s (printed kind path test text s)
-unfolding kept held
+    PrintsIn path (holder path test s) (held_test path test s).one.parent s (printed kind path test text s)
+unfolding test_kept held_test
 prints_in kind path test text s w =
     let name : List ℕ = holder path test s in
-    let h : Held = started (held path test s) in
+    let h : Held = started (held_test path test s) in
     let k : Held = string_printed kind text h in
-    let is = started_holds path name s (held path test s) (held_holds path test s w) in
+    let is = started_holds path name s (held_test path test s) (held_holds path test s w) in
     let cuts = string_cut kind text h in
     let places = string_places kind text h in
-    let own : span_in (tests_of path (kept k)) name ≡ k.one.span = kept_span path name s h k is cuts.path cuts.test cuts.sends.packages in
+    let own : span_of_test (tests_of path (test_kept k)) name ≡ k.one.span = kept_span path name s h k is cuts.path cuts.test cuts.sends.packages in
     let P : Option Id → Type 0 = λ span. ArePlacedCalls h.one.parent span places.more in
     record { more = places.more; calls = places.calls; placed = subst P (sym own) places.placed }
 
 -- another test starts after it
-other_span : (path name test : List ℕ) (s : GoState) → bytes_eq name test ≡ false → span_in (tests_of path (kept (holds (begun path test) s))) name ≡ span_in (tests_of path s) name
-unfolding kept
+other_span : (path name test : List ℕ) (s : GoState) → bytes_eq name test ≡ false → span_of_test (tests_of path (test_kept (holds (new_running path test) s))) name ≡ span_of_test (tests_of path s) name
+unfolding test_kept
 other_span path name test s differs =
-    ap span_of_it (found_filled path name path test (begun path test) s.packages)
-    ∙ ap (λ b. span_of_it (if bytes_eq path path && b then Some (begun path test) else found path name s.packages)) differs
+    ap span_of_it (found_filled path name path test (new_running path test) s.packages)
+    ∙ ap (λ b. span_of_it (if bytes_eq path path && b then Some (new_running path test) else found path name s.packages)) differs
     ∙ by (bytes_eq path path) where
-      by : (b : Bool) → span_of_it (if b && false then Some (begun path test) else found path name s.packages) ≡ span_of_it (found path name s.packages)
+      by : (b : Bool) → span_of_it (if b && false then Some (new_running path test) else found path name s.packages) ≡ span_of_it (found path name s.packages)
       by true = refl
       by false = refl
 
 -- what is open when a test starts
 pub opens_in : (path test : List ℕ) (s : GoState) → IsWell s.packages → (is_empty test ≡ false → bytes_eq (holder path test s) test ≡ false) →
-    PrintsIn path (holder path test s) (held path test s).one.parent s (begun_in path test (started (opened (part_emitted (held path test s)))))
-unfolding kept held
+    PrintsIn path (holder path test s) (held_test path test s).one.parent s (begun_in path test (started (held_opened (part_emitted (held_test path test s)))))
+unfolding test_kept held_test
 opens_in path test s w differs =
     let name : List ℕ = holder path test s in
-    let h : Held = held path test s in
-    let k : Held = started (opened (part_emitted h)) in
+    let h : Held = held_test path test s in
+    let k : Held = started (held_opened (part_emitted h)) in
     let is = held_holds path test s w in
-    let cuts = started_cut [] h (opened (part_emitted h)) (opened_cut [] h (part_emitted h) (part_cut h)) in
-    let places = then_places h (part_emitted h) (opened (part_emitted h)) (part_places h) (opened_places (part_emitted h)) in
-    let own : span_in (tests_of path (kept k)) name ≡ k.one.span = kept_span path name s h k is cuts.path cuts.test cuts.sends.packages in
+    let cuts = started_cut [] h (held_opened (part_emitted h)) (opened_cut [] h (part_emitted h) (part_cut h)) in
+    let places = then_places h (part_emitted h) (held_opened (part_emitted h)) (part_places h) (opened_places (part_emitted h)) in
+    let own : span_of_test (tests_of path (test_kept k)) name ≡ k.one.span = kept_span path name s h k is cuts.path cuts.test cuts.sends.packages in
     let t : GoState = begun_in path test k in
     let P : Option Id → Type 0 = λ span. ArePlacedCalls h.one.parent span places.more in
     record {
@@ -199,10 +199,10 @@ opens_in path test s w differs =
       calls = same_calls (is_empty test) k ∙ places.calls;
       placed = subst P (sym (by k (is_empty test) refl ∙ own)) places.placed;
     } where
-      same_calls : (b : Bool) (k : Held) → (if b then kept k else kept (holds (begun path test) (kept k))).calls ≡ k.state.calls
+      same_calls : (b : Bool) (k : Held) → (if b then test_kept k else test_kept (holds (new_running path test) (test_kept k))).calls ≡ k.state.calls
       same_calls true k = refl
       same_calls false k = refl
 
-      by : (k : Held) (b : Bool) → is_empty test ≡ b → span_in (tests_of path (if b then kept k else kept (holds (begun path test) (kept k)))) (holder path test s) ≡ span_in (tests_of path (kept k)) (holder path test s)
+      by : (k : Held) (b : Bool) → is_empty test ≡ b → span_of_test (tests_of path (if b then test_kept k else test_kept (holds (new_running path test) (test_kept k)))) (holder path test s) ≡ span_of_test (tests_of path (test_kept k)) (holder path test s)
       by k true is = refl
-      by k false is = other_span path (holder path test s) test (kept k) (differs is)
+      by k false is = other_span path (holder path test s) test (test_kept k) (differs is)

@@ -10,18 +10,18 @@ use Rattle.tracing_tree_base.specs.declared.style.Level.{Level}
 use Rattle.tracing_tree_layer.specs.declared.call.Call.{Call}
 use Rattle.tracing_tree_lines.specs.Lines.Spelled.{is_skipped}
 use Rattle.ttree_source.specs.Marks.{is_empty}
-use Rattle.ttree_source.specs.Calls.{close_call, event_call, message_field, shown, span_call}
+use Rattle.ttree_source.specs.Calls.{close_call, event_call, message_field, shown_text, span_call}
 use Rattle.ttree_go_test.specs.Texts.{ends_line, is_frame, without_line_end}
 use Rattle.ttree_go_test.specs.declared.go_test.running.Kind.{Kind}
 use Rattle.ttree_go_test.specs.declared.go_test.running.Running.{Running}
 use Rattle.ttree_go_test.specs.declared.go_test.tally.Ending.{Ending}
 use Rattle.ttree_go_test.specs.declared.go_test.tally.Ending.TheVariants.{Passed, Failed, Skipped, Unfinished}
-use Rattle.ttree_go_test.specs.GoTest.{GoState, Held, end_fields, event_emitted, fails_as, finished, frame_printed, framed, is_framing, level_of, level_of_line, line_of, line_emitted, more_printed, noted, opened, opened_as, part_emitted, quiet_emitted, said, span_ended, started, string_printed, text_printed, emitted, word_of}
+use Rattle.ttree_go_test.specs.GoTest.{GoState, Held, test_end_fields, text_event_emitted, fails_as, held_finished, frame_printed, framed, is_framing, level_of_ending, level_of_line, line_reported, part_line_emitted, more_printed, end_noted, held_opened, opened_as, part_emitted, quiet_emitted, said, span_ended, started, string_printed, text_printed, emitted_with_last, ending_word}
 use Rattle.ttree_go_test.specs.Printed.{Shown, Shown.Line, Shown.End, Shown.NamedEnd, Shown.Built, Shown.Plain, call_message, lines_in, messages, shown_message, shown_messages, unless_blank}
 
 -- the message of a line, if it is shown
 shown_if : Bool → List ℕ → List (List ℕ)
-shown_if b line = if b then shown line ∷ [] else []
+shown_if b line = if b then shown_text line ∷ [] else []
 
 abbrev pub sent : GoState → List (List ℕ)
 sent s = messages s.calls
@@ -63,7 +63,7 @@ then_says h k l one two a b = record {
 }
 
 -- one more call
-pub call_sends : (last : Option Id) (call : Call) (s : GoState) → Sends s (emitted last call s) (call_message call)
+pub call_sends : (last : Option Id) (call : Call) (s : GoState) → Sends s (emitted_with_last last call s) (call_message call)
 call_sends last call s = record {
   packages = refl;
   builds = refl;
@@ -71,10 +71,10 @@ call_sends last call s = record {
 }
 
 event_sends : (level : Level) (text : List ℕ) (rest : List Field) (parent : Option Id) (s : GoState) →
-    Sends s (event_emitted level text rest parent s) (shown_if (not (is_skipped text)) text)
+    Sends s (text_event_emitted level text rest parent s) (shown_if (not (is_skipped text)) text)
 unfolding shown_if
 event_sends level text rest parent s = by (is_skipped text) where
-  by : (b : Bool) → Sends s (if b then s else emitted parent (event_call s.moment level (message_field text ∷ rest) parent) s) (if not b then shown text ∷ [] else [])
+  by : (b : Bool) → Sends s (if b then s else emitted_with_last parent (event_call s.moment level (message_field text ∷ rest) parent) s) (if not b then shown_text text ∷ [] else [])
   by true = none_sent s
   by false = call_sends parent (event_call s.moment level (message_field text ∷ rest) parent) s
 
@@ -90,15 +90,15 @@ opened_by None h =
       sends = record { packages = refl; builds = refl; sent_too = sends.sent_too };
     }
 
-opened_says : (h : Held) → Says h (opened h) []
+opened_says : (h : Held) → Says h (held_opened h) []
 opened_says h = opened_by h.one.span h
 
-said_says : (level : Level) (text : List ℕ) (h : Held) → Says h (said level text (opened h)) (shown_if (not (is_skipped text)) text)
+said_says : (level : Level) (text : List ℕ) (h : Held) → Says h (said level text (held_opened h)) (shown_if (not (is_skipped text)) text)
 said_says level text h =
-    then_says h (opened h) (said level text (opened h)) [] (shown_if (not (is_skipped text)) text) (opened_says h)
-    (record { path = refl; test = refl; part = refl; has_begun = refl; sends = event_sends level text [] (opened h).one.span (opened h).state })
+    then_says h (held_opened h) (said level text (held_opened h)) [] (shown_if (not (is_skipped text)) text) (opened_says h)
+    (record { path = refl; test = refl; part = refl; has_begun = refl; sends = event_sends level text [] (held_opened h).one.span (held_opened h).state })
 
-framed_by : (b : Bool) (line : List ℕ) (h : Held) → Says h (if b then record h { one = noted line h.one } else h) []
+framed_by : (b : Bool) (line : List ℕ) (h : Held) → Says h (if b then record h { one = end_noted line h.one } else h) []
 framed_by true line h = record { path = refl; test = refl; part = refl; has_begun = refl; sends = none_sent h.state }
 framed_by false line h = none_said h
 
@@ -109,12 +109,12 @@ framed_says line h = framed_by (is_empty h.one.test) line h
 abbrev pub line_of_its : Running → List ℕ → Shown
 line_of_its one text = Line (record { path = one.path; test = one.test; text = text })
 
-line_says : (level : Level) (text : List ℕ) (h : Held) → Says h (line_of level text h) (shown_message (line_of_its h.one text))
+line_says : (level : Level) (text : List ℕ) (h : Held) → Says h (line_reported level text h) (shown_message (line_of_its h.one text))
 unfolding shown_if
 line_says level text h = by (is_skipped (without_line_end text)) (is_frame h.one.test (without_line_end text)) (said_says level (without_line_end text) h) where
-  by : (skipped frames : Bool) → Says h (said level (without_line_end text) (opened h)) (if not skipped then shown (without_line_end text) ∷ [] else []) →
-      Says h (if frames then framed (without_line_end text) h else said level (without_line_end text) (opened h))
-      (if not skipped && not frames then shown (without_line_end text) ∷ [] else [])
+  by : (skipped frames : Bool) → Says h (said level (without_line_end text) (held_opened h)) (if not skipped then shown_text (without_line_end text) ∷ [] else []) →
+      Says h (if frames then framed (without_line_end text) h else said level (without_line_end text) (held_opened h))
+      (if not skipped && not frames then shown_text (without_line_end text) ∷ [] else [])
   by true true h' = framed_says (without_line_end text) h
   by false true h' = framed_says (without_line_end text) h
   by true false h' = h'
@@ -137,7 +137,7 @@ pub record Cuts (text : List ℕ) (h k : Held) : Type 0 where
   pub sends : Sends h.state k.state (shown_messages (lines_of_its h.one lines))
 
 -- the pending text is a line
-line_cut : (h : Held) → Cuts [] h (line_emitted h)
+line_cut : (h : Held) → Cuts [] h (part_line_emitted h)
 line_cut h =
     let bare : Held = record h { one = record h.one { part = []; is_error = false } } in
     let says = line_says (level_of_line h.one.is_error) h.one.part bare in
@@ -166,7 +166,7 @@ no_cut h = record {
 
 pub part_cut : (h : Held) → Cuts [] h (part_emitted h)
 part_cut h = by (is_empty h.one.part) where
-  by : (b : Bool) → Cuts [] h (if b then h else line_emitted h)
+  by : (b : Bool) → Cuts [] h (if b then h else part_line_emitted h)
   by true = no_cut h
   by false = line_cut h
 
@@ -177,7 +177,7 @@ nil_if_empty (b ∷ text) h = grind (arith, nat_tests)
 -- nothing is pending afterwards
 pub part_none : (h : Held) → (part_emitted h).one.part ≡ []
 part_none h = by (is_empty h.one.part) refl where
-  by : (b : Bool) → is_empty h.one.part ≡ b → (if b then h else line_emitted h).one.part ≡ []
+  by : (b : Bool) → is_empty h.one.part ≡ b → (if b then h else part_line_emitted h).one.part ≡ []
   by true is = nil_if_empty h.one.part is
   by false is = (line_says (level_of_line h.one.is_error) h.one.part (record h { one = record h.one { part = []; is_error = false } })).part
 
@@ -187,7 +187,7 @@ text_cut is_error text h = by (ends_line text) where
   more : Held
   more = more_printed is_error text h
 
-  by : (b : Bool) → Cuts text h (if b then line_emitted more else more)
+  by : (b : Bool) → Cuts text h (if b then part_line_emitted more else more)
   by true =
       let cuts = line_cut more in
       record {
@@ -232,7 +232,8 @@ string_cut kind text h = by (is_framing kind h.one.test text) where
   by true = frame_cut text h
   by false = text_cut (fails_as kind) text h
 
-blank_or : (b : Bool) (text : List ℕ) → shown_if (not b) text ≡ (if b then [] else shown text ∷ [])
+blank_or : (b : Bool) (text : List ℕ) → shown_if (not b) text
+    ≡ (if b then [] else shown_text text ∷ [])
 unfolding shown_if
 blank_or true text = refl
 blank_or false text = refl
@@ -241,16 +242,16 @@ with_more : (s t : GoState) (a b : List (List ℕ)) → a ≡ b → Sends s t a 
 with_more s t a b e h = record { packages = h.packages; builds = h.builds; sent_too = h.sent_too ∙ ap (λ more. sent s ++ more) e }
 
 -- an event shows its line, unless that is blank
-pub event_shows : (level : Level) (text : List ℕ) (rest : List Field) (parent : Option Id) (s : GoState) → Sends s (event_emitted level text rest parent s) (unless_blank text)
+pub event_shows : (level : Level) (text : List ℕ) (rest : List Field) (parent : Option Id) (s : GoState) → Sends s (text_event_emitted level text rest parent s) (unless_blank text)
 event_shows level text rest parent s =
-    with_more s (event_emitted level text rest parent s) (shown_if (not (is_skipped text)) text) (unless_blank text) (blank_or (is_skipped text) text) (event_sends level text rest parent s)
+    with_more s (text_event_emitted level text rest parent s) (shown_if (not (is_skipped text)) text) (unless_blank text) (blank_or (is_skipped text) text) (event_sends level text rest parent s)
 
-pub said_shows : (level : Level) (text : List ℕ) (h : Held) → Sends h.state (said level text (opened h)).state (unless_blank text)
+pub said_shows : (level : Level) (text : List ℕ) (h : Held) → Sends h.state (said level text (held_opened h)).state (unless_blank text)
 said_shows level text h =
-    with_more h.state (said level text (opened h)).state (shown_if (not (is_skipped text)) text) (unless_blank text) (blank_or (is_skipped text) text) (said_says level text h).sends
+    with_more h.state (said level text (held_opened h)).state (shown_if (not (is_skipped text)) text) (unless_blank text) (blank_or (is_skipped text) text) (said_says level text h).sends
 
 -- its span opens
-pub opened_cut : (text : List ℕ) (h k : Held) → Cuts text h k → Cuts text h (opened k)
+pub opened_cut : (text : List ℕ) (h k : Held) → Cuts text h k → Cuts text h (held_opened k)
 opened_cut text h k cuts =
     let says = opened_says k in
     record {
@@ -300,10 +301,10 @@ no_others_then a b h k = flat_map-append other_in a b ∙ ap (λ x. x ++ others_
 quiet_by : (ending : Ending) (name : List ℕ) (rest : List Field) (parent : Option Id) (s : GoState) →
     Sends s (quiet_emitted ending name rest parent s) (shown_message (NamedEnd ending name))
 unfolding shown_if
-quiet_by Passed name rest parent s = event_sends (level_of Passed) (word_of Passed ++ codes " " ++ name) rest parent s
-quiet_by Failed name rest parent s = event_sends (level_of Failed) (word_of Failed ++ codes " " ++ name) rest parent s
-quiet_by Skipped name rest parent s = event_sends (level_of Skipped) (word_of Skipped ++ codes " " ++ name) rest parent s
-quiet_by Unfinished name rest parent s = event_sends (level_of Unfinished) (word_of Unfinished ++ codes " " ++ name) rest parent s
+quiet_by Passed name rest parent s = event_sends (level_of_ending Passed) (ending_word Passed ++ codes " " ++ name) rest parent s
+quiet_by Failed name rest parent s = event_sends (level_of_ending Failed) (ending_word Failed ++ codes " " ++ name) rest parent s
+quiet_by Skipped name rest parent s = event_sends (level_of_ending Skipped) (ending_word Skipped ++ codes " " ++ name) rest parent s
+quiet_by Unfinished name rest parent s = event_sends (level_of_ending Unfinished) (ending_word Unfinished ++ codes " " ++ name) rest parent s
 
 -- the end of a test without a span is named
 pub quiet_sends : (ending : Ending) (name : List ℕ) (rest : List Field) (parent : Option Id) (s : GoState) →
@@ -311,12 +312,15 @@ pub quiet_sends : (ending : Ending) (name : List ℕ) (rest : List Field) (paren
 quiet_sends ending name rest parent s = quiet_by ending name rest parent s
 
 end_by : (ending : Ending) (rest : List Field) (parent : Option Id) (s : GoState) →
-    Sends s (event_emitted (level_of ending) (word_of ending) rest parent s) (shown_message (End ending))
+    Sends s (text_event_emitted (level_of_ending ending) (ending_word ending) rest parent s) (shown_message (End ending))
 unfolding shown_if
-end_by Passed rest parent s = event_sends (level_of Passed) (word_of Passed) rest parent s
-end_by Failed rest parent s = event_sends (level_of Failed) (word_of Failed) rest parent s
-end_by Skipped rest parent s = event_sends (level_of Skipped) (word_of Skipped) rest parent s
-end_by Unfinished rest parent s = event_sends (level_of Unfinished) (word_of Unfinished) rest parent s
+end_by Passed rest parent s =
+    event_sends (level_of_ending Passed) (ending_word Passed) rest parent s
+end_by Failed rest parent s =
+    event_sends (level_of_ending Failed) (ending_word Failed) rest parent s
+end_by Skipped rest parent s =
+    event_sends (level_of_ending Skipped) (ending_word Skipped) rest parent s
+end_by Unfinished rest parent s = event_sends (level_of_ending Unfinished) (ending_word Unfinished) rest parent s
 
 -- what shows an end
 pub record Ends (s t : GoState) : Type 0 where
@@ -327,13 +331,14 @@ pub record Ends (s t : GoState) : Type 0 where
 
 span_ends : (ending : Ending) (rest : List Field) (span : Option Id) (h : Held) → Ends h.state (span_ended ending rest span h)
 span_ends ending rest (Some id) h =
-    let event : GoState = event_emitted (level_of ending) (word_of ending) rest (Some id) h.state in
+    let event : GoState = text_event_emitted (level_of_ending ending) (ending_word ending) rest
+    (Some id) h.state in
     let close : Call = close_call h.state.moment id h.one.parent in
     record {
       ends = End ending ∷ [];
       no_line = refl;
       no_other = refl;
-      sends = then_sends h.state event (emitted h.one.parent close event) (shown_message (End ending)) [] (end_by ending rest (Some id) h.state) (call_sends h.one.parent close event);
+      sends = then_sends h.state event (emitted_with_last h.one.parent close event) (shown_message (End ending)) [] (end_by ending rest (Some id) h.state) (call_sends h.one.parent close event);
     }
 span_ends ending rest None h = record {
   ends = NamedEnd ending h.one.name ∷ [];
@@ -351,11 +356,11 @@ pub record Finishes (h : Held) (t : GoState) : Type 0 where
   pub no_other : others_in ends ≡ []
   pub sends : Sends h.state t (shown_messages (lines_of_its h.one lines ++ ends))
 
-pub finished_shows : (ending : Ending) (elapsed : Option (List ℕ)) (h : Held) → Finishes h (finished ending elapsed h)
+pub finished_shows : (ending : Ending) (elapsed : Option (List ℕ)) (h : Held) → Finishes h (held_finished ending elapsed h)
 finished_shows ending elapsed h =
     let last : Held = part_emitted h in
     let cuts = part_cut h in
-    let rest : List Field = end_fields elapsed last.one in
+    let rest : List Field = test_end_fields elapsed last.one in
     let ended = span_ends ending rest last.one.span last in
     let sends = then_sends h.state last.state (span_ended ending rest last.one.span last) (shown_messages (lines_of_its h.one cuts.lines)) (shown_messages ended.ends) cuts.sends ended.sends in
     record {

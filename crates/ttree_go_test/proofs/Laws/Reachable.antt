@@ -18,7 +18,7 @@ use Rattle.ttree_source.specs.Source.{interpret, interpret_line, interpreted_ste
 use Rattle.ttree_source.specs.Calls.{event_call, message_field}
 use Rattle.ttree_go_test.specs.Texts.{is_package_frame, up_to_space, without_line_end}
 use Rattle.ttree_source.specs.Values.{text_at}
-use Rattle.ttree_go_test.specs.GoTest.{GoState, Held, acted, acted_for, build_printed_if, build_said, build_emitted, builds_said, elapsed_in, ended, event_emitted, go_takes, handed_out, held, is_aside, kept, kind_in, level_of_text, moved, nothing_run, opened, opened_as, package_ended, package_of, printed_if, ran, said, takes_failure, takes_heading, takes_json, takes_plain, takes_text, test_of, texts_emitted, timed, emitted, emitted_of_build, without_build, without_heading, build_over, level_of_build, package_started}
+use Rattle.ttree_go_test.specs.GoTest.{GoState, Held, acted, acted_for, build_printed_if, build_said, build_emitted, builds_said, elapsed_in, test_or_package_ended, text_event_emitted, go_takes, handed_out, held_test, is_aside, test_kept, output_kind, level_of_text, moved, nothing_run, held_opened, opened_as, package_ended, package_of, printed_if, ran, said, takes_failure, takes_heading, takes_json, takes_plain, takes_text, test_of, texts_emitted, at_action_time, emitted_with_last, emitted_of_build, without_build, without_heading, build_over, level_of_build, package_started}
 use Rattle.ttree_go_test.proofs.Laws.WellKept.{IsWell, emptied, filled, well_emptied, well_filled}
 use Rattle.ttree_go_test.proofs.Laws.Accounts.{Holds, held_holds, holder}
 use Rattle.ttree_go_test.proofs.Laws.Actions.{printed_accounts, ran_accounts, test_accounts, started_accounts}
@@ -49,23 +49,24 @@ opened_by : (span : Option Id) (h : Held) → Same h (opened_as span h)
 opened_by (Some id) h = same h
 opened_by None h = record { path = refl; test = refl; part = refl; begun = refl; packages = refl }
 
-pub event_same : (level : Level) (text : List ℕ) (rest : List Field) (parent : Option Id) (s : GoState) → (event_emitted level text rest parent s).packages ≡ s.packages
+pub event_same : (level : Level) (text : List ℕ) (rest : List Field) (parent : Option Id) (s : GoState) → (text_event_emitted level text rest parent s).packages ≡ s.packages
 event_same level text rest parent s = by (is_skipped text) where
-  by : (b : Bool) → (if b then s else emitted parent (event_call s.moment level (message_field text ∷ rest) parent) s).packages ≡ s.packages
+  by : (b : Bool) → (if b then s else emitted_with_last parent (event_call s.moment level (message_field text ∷ rest) parent) s).packages ≡ s.packages
   by true = refl
   by false = refl
 
-pub said_same : (level : Level) (text : List ℕ) (h : Held) → Same h (said level text (opened h))
+pub said_same : (level : Level) (text : List ℕ) (h : Held)
+    → Same h (said level text (held_opened h))
 said_same level text h =
-    then_same h (opened h) (said level text (opened h)) (opened_by h.one.span h)
-    (record { path = refl; test = refl; part = refl; begun = refl; packages = event_same level text [] (opened h).one.span (opened h).state })
+    then_same h (held_opened h) (said level text (held_opened h)) (opened_by h.one.span h)
+    (record { path = refl; test = refl; part = refl; begun = refl; packages = event_same level text [] (held_opened h).one.span (held_opened h).state })
 
 build_said_same : (level : Level) (text : List ℕ) (h : Held) → Same h (build_said level text h)
 build_said_same level text h = by (is_skipped line) where
   line : List ℕ
   line = without_line_end (without_heading text)
 
-  by : (b : Bool) → Same h (if b then h else said (level_of_build level line) line (opened h))
+  by : (b : Bool) → Same h (if b then h else said (level_of_build level line) line (held_opened h))
   by true = same h
   by false = said_same (level_of_build level line) line h
 
@@ -74,12 +75,12 @@ builds_said_same level [] h = same h
 builds_said_same level (text ∷ later) h =
     then_same h (build_said level text h) (builds_said level later (build_said level text h)) (build_said_same level text h) (builds_said_same level later (build_said level text h))
 
-pub kept_well : (path name : List ℕ) (s : GoState) (h k : Held) → IsWell s.packages → Holds path name s h → Same h k → IsWell (kept k).packages
-unfolding kept
+pub kept_well : (path name : List ℕ) (s : GoState) (h k : Held) → IsWell s.packages → Holds path name s h → Same h k → IsWell (test_kept k).packages
+unfolding test_kept
 kept_well path name s h k w is like =
     let p : k.one.path ≡ path = like.path ∙ is.path_is in
     let n : k.one.test ≡ name = like.test ∙ is.test_is in
-    let all : (kept k).packages ≡ filled path name k.one (emptied path name s.packages) =
+    let all : (test_kept k).packages ≡ filled path name k.one (emptied path name s.packages) =
     ap (λ x. filled x k.one.test k.one k.state.packages) p ∙ ap (λ x. filled path x k.one k.state.packages) n ∙ ap (filled path name k.one) (like.packages ∙ is.packages) in
     rw all (well_filled path name k.one (emptied path name s.packages) (p, n, λ not_begun. like.part ∙ is.begins (sym_of like.begun not_begun), λ not_begun. is.of_package (sym_of like.begun not_begun)) (well_emptied path name s.packages w)) where
       sym_of : k.one.has_begun ≡ h.one.has_begun → k.one.has_begun ≡ false → h.one.has_begun ≡ false
@@ -87,8 +88,8 @@ kept_well path name s h k w is like =
 
 texts_well : (level : Level) (build : Build) (s : GoState) → IsWell s.packages → IsWell (texts_emitted level build s).packages
 texts_well level build s w =
-    kept_well build.path (holder build.path [] s) s (held build.path [] s) (builds_said level build.texts (held build.path [] s)) w (held_holds build.path [] s w)
-    (builds_said_same level build.texts (held build.path [] s))
+    kept_well build.path (holder build.path [] s) s (held_test build.path [] s) (builds_said level build.texts (held_test build.path [] s)) w (held_holds build.path [] s w)
+    (builds_said_same level build.texts (held_test build.path [] s))
 
 build_well : (level : Level) (path : List ℕ) (s : GoState) → IsWell s.packages → IsWell (build_emitted level path s).packages
 build_well level path s w = by (named path s.builds) where
@@ -105,9 +106,9 @@ well_if false s t h k = k
 plain_well : (line : List ℕ) (s : GoState) → IsWell s.packages → IsWell (takes_plain line s).packages
 plain_well line s w =
     well_if (is_package_frame line) s _ w
-    (well_if (is_aside line s) (event_emitted (level_of_text line) line [] s.last s) (kept (said Error line (opened (held s.building [] s)))) aside
-    (kept_well s.building (holder s.building [] s) s (held s.building [] s) (said Error line (opened (held s.building [] s))) w (held_holds s.building [] s w) (said_same Error line (held s.building [] s)))) where
-      aside : IsWell (event_emitted (level_of_text line) line [] s.last s).packages
+    (well_if (is_aside line s) (text_event_emitted (level_of_text line) line [] s.last s) (test_kept (said Error line (held_opened (held_test s.building [] s)))) aside
+    (kept_well s.building (holder s.building [] s) s (held_test s.building [] s) (said Error line (held_opened (held_test s.building [] s))) w (held_holds s.building [] s w) (said_same Error line (held_test s.building [] s)))) where
+      aside : IsWell (text_event_emitted (level_of_text line) line [] s.last s).packages
       aside = rw (event_same (level_of_text line) line [] s.last s) w
 
 failure_well : (rest : Option (List ℕ)) (line : List ℕ) (s : GoState) → IsWell s.packages → IsWell (takes_failure rest line s).packages
@@ -121,16 +122,16 @@ heading_well None line s w = failure_well (after_mark (codes "FAIL\t") line) lin
 text_well : (line : List ℕ) (s : GoState) → IsWell s.packages → IsWell (takes_text line s).packages
 text_well line s w = well_if (is_skipped line) s (takes_heading (after_mark (codes "# ") line) line s) w (heading_well (after_mark (codes "# ") line) line s w)
 
-ended_well : (ending : Ending) (path test : List ℕ) (elapsed : Option (List ℕ)) (s : GoState) → IsWell s.packages → IsWell (ended ending path test elapsed s).packages
+ended_well : (ending : Ending) (path test : List ℕ) (elapsed : Option (List ℕ)) (s : GoState) → IsWell s.packages → IsWell (test_or_package_ended ending path test elapsed s).packages
 ended_well ending path test elapsed s w =
     well_if (is_empty test) (package_ended ending path elapsed (build_over path s)) _ (package_accounts ending path elapsed (build_over path s) w).well (test_accounts ending path test elapsed s w).well
 
 moved_well : (action path test : List ℕ) (elapsed : Option (List ℕ)) (s : GoState) → IsWell s.packages → IsWell (moved action path test elapsed s).packages
 moved_well action path test elapsed s w =
     well_if (bytes_eq action (codes "run")) (ran path test s) _ (ran_accounts path test s w).well
-    (well_if (bytes_eq action (codes "pass") || bytes_eq action (codes "bench")) (ended Passed path test elapsed s) _ (ended_well Passed path test elapsed s w)
-    (well_if (bytes_eq action (codes "fail")) (ended Failed path test elapsed s) _ (ended_well Failed path test elapsed s w)
-    (well_if (bytes_eq action (codes "skip")) (ended Skipped path test elapsed s) _ (ended_well Skipped path test elapsed s w)
+    (well_if (bytes_eq action (codes "pass") || bytes_eq action (codes "bench")) (test_or_package_ended Passed path test elapsed s) _ (ended_well Passed path test elapsed s w)
+    (well_if (bytes_eq action (codes "fail")) (test_or_package_ended Failed path test elapsed s) _ (ended_well Failed path test elapsed s w)
+    (well_if (bytes_eq action (codes "skip")) (test_or_package_ended Skipped path test elapsed s) _ (ended_well Skipped path test elapsed s w)
     (well_if (bytes_eq action (codes "start")) (package_started path s) s (started_accounts path s w).well w))))
 
 abbrev IfWell : Option GoState → Type 0
@@ -144,7 +145,7 @@ either_well false x y h k = k
 acted_well : (action path : List ℕ) (value : Json) (s : GoState) → IsWell s.packages → IfWell (acted action path (test_of value) value s)
 acted_well action path value s w =
     either_well (bytes_eq action (codes "build-output")) (build_printed_if path output s) _ (built output)
-    (either_well (bytes_eq action (codes "output")) (printed_if (kind_in value) path (test_of value) output s) _ (prints output)
+    (either_well (bytes_eq action (codes "output")) (printed_if (output_kind value) path (test_of value) output s) _ (prints output)
     (either_well (bytes_eq action (codes "build-fail")) (Some (build_emitted Error path s)) _ (build_well Error path s w)
     (moved_well action path (test_of value) (elapsed_in value) (build_emitted Warn path s) (build_well Warn path s w)))) where
       output : Option (List ℕ)
@@ -154,9 +155,9 @@ acted_well action path value s w =
       built None = tt
       built (Some text) = w
 
-      prints : (o : Option (List ℕ)) → IfWell (printed_if (kind_in value) path (test_of value) o s)
+      prints : (o : Option (List ℕ)) → IfWell (printed_if (output_kind value) path (test_of value) o s)
       prints None = tt
-      prints (Some text) = (printed_accounts (kind_in value) path (test_of value) text (build_emitted Warn path s) (build_well Warn path s w)).well
+      prints (Some text) = (printed_accounts (output_kind value) path (test_of value) text (build_emitted Warn path s) (build_well Warn path s w)).well
 
 json_well : (action path : Option (List ℕ)) (value : Json) (s : GoState) → IsWell s.packages → IfWell (acted_for action path value s)
 json_well (Some action) (Some path) value s w = acted_well action path value s w
@@ -170,7 +171,7 @@ handed_well s (Some t) w h = h
 value_well : (line : List ℕ) (value : Option Json) (s : GoState) → IsWell s.packages → IsWell (interpreted_step s (go_takes s line value)).source.packages
 value_well line None s w = text_well line s w
 value_well line (Some value) s w =
-    handed_well s (takes_json value (timed value s)) w (json_well (text_at (codes "Action") value) (package_of value) value (timed value s) w)
+    handed_well s (takes_json value (at_action_time value s)) w (json_well (text_at (codes "Action") value) (package_of value) value (at_action_time value s) w)
 
 line_well : (line : List ℕ) (s : GoState) → IsWell s.packages → IsWell (interpret_line go_takes s line).source.packages
 line_well line s w = by (is_utf8 line) where
@@ -188,7 +189,7 @@ handed_calls s (Some t) h = refl
 
 value_calls : (line : List ℕ) (value : Option Json) (s : GoState) → s.calls ≡ [] → (interpreted_step s (go_takes s line value)).source.calls ≡ []
 value_calls line None s h = refl
-value_calls line (Some value) s h = handed_calls s (takes_json value (timed value s)) h
+value_calls line (Some value) s h = handed_calls s (takes_json value (at_action_time value s)) h
 
 line_calls : (line : List ℕ) (s : GoState) → s.calls ≡ [] → (interpret_line go_takes s line).source.calls ≡ []
 line_calls line s h = by (is_utf8 line) where

@@ -2,7 +2,7 @@
 
 ghost use Rattle.std.specs.Prelude.{◌≡◌, ◌++◌, ◌∷◌, [], IfOk, OnOk};
 ghost use Rattle.ttree_go_test.specs.Names.{named};
-ghost use Rattle.ttree_go_test.specs.GoTest.{begun, build_last, build_of, build_printed, build_said, build_emitted, builds_said, builds_emitted, holds, level_of_build, more_built, only_closed, texts_emitted, emitted_of_build, with_build, without_build, without_heading};
+ghost use Rattle.ttree_go_test.specs.GoTest.{new_running, build_last, build_of, build_printed, build_said, build_emitted, builds_said, builds_emitted, holds, level_of_build, more_built, only_closed, texts_emitted, emitted_of_build, with_build, without_build, without_heading};
 
 use super::GoTest;
 use super::running::Running;

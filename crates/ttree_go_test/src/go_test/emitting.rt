@@ -2,7 +2,7 @@
 
 ghost use Rattle.std.specs.Prelude.{◌≡◌, ◌++◌, ◌∷◌, [], IfOk, OnOk, option_map};
 ghost use Rattle.ttree_source.specs.Calls.{close_call};
-ghost use Rattle.ttree_go_test.specs.GoTest.{cached_fields, coverage_fields, elapsed_fields, event_emitted, finished, frame_printed, framed, holds, level_of_line, line_of, line_emitted, opened, part_emitted, quiet_emitted, span_ended, string_printed, text_printed, emitted};
+ghost use Rattle.ttree_go_test.specs.GoTest.{cached_fields, coverage_fields, elapsed_fields, text_event_emitted, held_finished, frame_printed, framed, holds, level_of_line, line_reported, part_line_emitted, held_opened, part_emitted, quiet_emitted, span_ended, string_printed, text_printed, emitted_with_last};
 
 use super::GoTest;
 use super::running::{Kind, Running};
@@ -72,7 +72,8 @@ impl GoTest {
 
     // Reports the line that a test has printed, unless it is only a frame.
     fn emit_printed(&mut self, owner: &mut Running) -> Result<(), AllocError>
-        ensures { OnOk result (holds owner.new self.new ≡ line_emitted (holds owner.old self.old)) }
+        ensures { OnOk result (holds owner.new self.new
+            ≡ part_line_emitted (holds owner.old self.old)) }
     {
         let level = level_of_line(owner.is_error);
         let part = owner.take_part(self.alloc)?;
@@ -82,7 +83,7 @@ impl GoTest {
     // Reports this line of a test or package, unless it is only a frame.
     fn emit_line(&mut self, owner: &mut Running, level: Level, text: &str) -> Result<(), AllocError>
         ensures { OnOk result (holds owner.new self.new
-            ≡ line_of level text.now (holds owner.old self.old)) }
+            ≡ line_reported level text.now (holds owner.old self.old)) }
     {
         let line = without_line_end(text);
         if is_frame(owner.test.as_str(), line) {
@@ -111,7 +112,8 @@ impl GoTest {
         ending: Ending,
         elapsed: Option<&str>,
     ) -> Result<(), AllocError>
-        ensures { OnOk result (self.new ≡ finished ending (option_map (λ e. e.now) elapsed.entry)
+        ensures { OnOk result (self.new
+            ≡ held_finished ending (option_map (λ e. e.now) elapsed.entry)
             (holds one self.old)) }
     {
         let mut one = one;
@@ -143,7 +145,7 @@ impl GoTest {
     // Closes a span in its parent.
     pub(super) fn push_close(&mut self, id: Id, parent: Option<Id>) -> Result<(), AllocError>
         ensures { OnOk result (self.new
-            ≡ emitted parent (close_call self.old.moment id parent) self.old) }
+            ≡ emitted_with_last parent (close_call self.old.moment id parent) self.old) }
     {
         self.push(parent, close_call(self.moment, id, parent))
     }
@@ -172,7 +174,7 @@ impl GoTest {
         text: &str,
         parent: Option<Id>,
     ) -> Result<(), AllocError>
-        ensures { OnOk result (self.new ≡ event_emitted level text.now [] parent self.old) }
+        ensures { OnOk result (self.new ≡ text_event_emitted level text.now [] parent self.old) }
     {
         let rest = Vec::new(self.alloc);
         self.push_fields(level, text, rest, parent)
@@ -186,7 +188,8 @@ impl GoTest {
         rest: Vec<Field>,
         parent: Option<Id>,
     ) -> Result<(), AllocError>
-        ensures { OnOk result (self.new ≡ event_emitted level text.now rest.items parent self.old) }
+        ensures { OnOk result (self.new
+            ≡ text_event_emitted level text.now rest.items parent self.old) }
     {
         if is_skipped(text.as_bytes()) {
             return Ok(());
@@ -199,7 +202,7 @@ impl GoTest {
 
     // Adds a call, and makes `last` the span of the last call.
     fn push(&mut self, last: Option<Id>, call: Call) -> Result<(), AllocError>
-        ensures { OnOk result (self.new ≡ emitted last call self.old) }
+        ensures { OnOk result (self.new ≡ emitted_with_last last call self.old) }
     {
         self.calls.push(call)?;
         self.last = last;
@@ -208,7 +211,7 @@ impl GoTest {
 
     // Opens the span of a test or package, unless it is open.
     pub(super) fn open(&mut self, one: &mut Running) -> Result<(), AllocError>
-        ensures { OnOk result (holds one.new self.new ≡ opened (holds one.old self.old)) }
+        ensures { OnOk result (holds one.new self.new ≡ held_opened (holds one.old self.old)) }
     {
         if one.span.is_some() {
             return Ok(());

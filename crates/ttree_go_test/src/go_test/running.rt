@@ -1,7 +1,7 @@
 //! Running tests and their packages.
 
 ghost use Rattle.std.specs.Prelude.{◌≡◌, ◌++◌, [], false, IfOk, OnOk, ◌||◌, length, ◌≤◌, option_map};
-ghost use Rattle.ttree_go_test.specs.GoTest.{begun, fails_as, is_framing, kind_named, name_at_first, noted, outer_within, owner, placed, placed_in, shown_at, shown_name, span_in, span_of, whole_name, with_span};
+ghost use Rattle.ttree_go_test.specs.GoTest.{end_noted, fails_as, if_has_span, is_framing, kind_named, name_at_first, new_running, outer_span, outer_within, owner, placed_in, shown_at, shown_name, span_of_test, test_placed, whole_name};
 
 use super::text::{coverage_in, ends_word, is_cached, is_frame_line, own_name};
 use crate::names::Named;
@@ -79,7 +79,7 @@ impl Kind {
 impl Running {
     // Starts a test, or a package, whose test name is empty.
     pub(super) fn begun(alloc: Global, path: &str, test: &str) -> Result<Running, AllocError>
-        ensures { IfOk result (λ one. one ≡ begun path.now test.now) }
+        ensures { IfOk result (λ one. one ≡ new_running path.now test.now) }
     {
         let name = name_at_first(path, test);
         Ok(Running {
@@ -125,7 +125,7 @@ impl Running {
         package_span: Option<Id>,
         others: &Named<Running>,
     ) -> Result<(), AllocError>
-        ensures { OnOk result (self.new ≡ placed package_span others.now self.old) }
+        ensures { OnOk result (self.new ≡ test_placed package_span others.now self.old) }
     {
         let outer = outer_in(others, self.test.as_str().as_bytes());
         self.place_in(alloc, package_span, outer)
@@ -179,7 +179,7 @@ impl Running {
 
     // Records what a line of a package says about its end.
     pub(super) fn note(&mut self, alloc: Global, line: &str) -> Result<(), AllocError>
-        ensures { OnOk result (self.new ≡ noted line.now self.old) }
+        ensures { OnOk result (self.new ≡ end_noted line.now self.old) }
     {
         self.is_cached = self.is_cached || is_cached(line);
         if let Some(coverage) = coverage_in(line) {
@@ -199,7 +199,7 @@ fn name_at_first<'a>(path: &'a str, test: &'a str) -> &'a str
 
 // Returns the span of the parent test, or the package's.
 fn span_of(package_span: Option<Id>, outer: Option<&Running>) -> Option<Id>
-    ensures { result ≡ span_of package_span (option_map (λ o. o.now) outer.entry) }
+    ensures { result ≡ outer_span package_span (option_map (λ o. o.now) outer.entry) }
 {
     match outer {
         Some(outer) => outer.span,
@@ -250,7 +250,7 @@ fn shown_at<'t>(tests: &'t Named<Running>, test: &[u8], size: usize) -> Option<&
 
 // Returns the value if it has a span.
 fn with_span(one: Option<&Running>) -> Option<&Running>
-    ensures { option_map (λ o. o.now) result ≡ with_span (option_map (λ o. o.now) one.entry) }
+    ensures { option_map (λ o. o.now) result ≡ if_has_span (option_map (λ o. o.now) one.entry) }
 {
     match one {
         Some(one) if one.span.is_some() => Some(one),
@@ -260,7 +260,7 @@ fn with_span(one: Option<&Running>) -> Option<&Running>
 
 // Returns the span of this name, if it is running and has one.
 pub(super) fn span_in(tests: &Named<Running>, name: &[u8]) -> Option<Id>
-    ensures { result ≡ span_in tests.now name.now }
+    ensures { result ≡ span_of_test tests.now name.now }
 {
     tests.get(name)?.span
 }

@@ -1,7 +1,7 @@
 //! How tests and packages end, and the counts of each end.
 
 ghost use Rattle.std.specs.Prelude.{◌≡◌, ◌++◌, codes, IfOk, OnOk, string_bytes};
-ghost use Rattle.ttree_go_test.specs.GoTest.{counts_failure, failing_fields, left_as, level_of, more_names, more_text, names_field, no_counts, tally_fields, word_of};
+ghost use Rattle.ttree_go_test.specs.GoTest.{counts_failure, ending_word, failing_fields, left_as, level_of_ending, more_names, more_text, names_field, no_counts, tally_fields};
 
 use std::alloc::{AllocError, Global};
 use tracing_tree_base::field::Field;
@@ -161,7 +161,7 @@ pub(super) enum Ending {
 
 impl Ending {
     pub(super) fn word(self) -> &'static str
-        ensures { result.now ≡ word_of self }
+        ensures { result.now ≡ ending_word self }
     {
         match self {
             Ending::Passed => "pass",
@@ -172,7 +172,7 @@ impl Ending {
     }
 
     pub(super) fn level(self) -> Level
-        ensures { result ≡ level_of self }
+        ensures { result ≡ level_of_ending self }
     {
         match self {
             Ending::Passed => Level::Info,

@@ -3,7 +3,7 @@
 ghost use Rattle.std.specs.Prelude.{◌≡◌, IfOk, OnOk, pos};
 ghost use Rattle.tracing_tree_base.specs.Field.{whole_field};
 ghost use Rattle.ttree_junit.specs.Document.{rest_taken};
-ghost use Rattle.ttree_junit.specs.Reading.{case_cut, cut_as, cut_with, elements_cut, finished, innermost_cut, suite_closed, suites_closed, tallied, tally_fields};
+ghost use Rattle.ttree_junit.specs.Reading.{case_cut, cut_as, cut_with, elements_cut, innermost_cut, report_finished, suite_closed, suites_closed, tallied, tally_fields};
 
 use super::{Junit, Suite, Tally};
 use crate::element::Element;
@@ -25,9 +25,9 @@ impl Junit {
     }
 
     // Ends what is open, and counts the cases.
-    #[tactic(auto, unfolding(crate::specs::Reading::finished))]
+    #[tactic(auto, unfolding(crate::specs::Reading::report_finished))]
     pub(crate) fn finish(&mut self) -> Result<(), AllocError>
-        ensures { OnOk result (self.new ≡ finished self.old) }
+        ensures { OnOk result (self.new ≡ report_finished self.old) }
     {
         self.cut_elements()?;
         self.leave_class()?;

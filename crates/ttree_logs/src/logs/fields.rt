@@ -2,9 +2,9 @@
 
 ghost use Rattle.std.specs.Prelude.{◌≡◌, ◌++◌, IfOk, OnOk, string_bytes};
 ghost use Rattle.json.specs.Value.{members_view, value_view};
-ghost use Rattle.ttree_source.specs.Calls.{shown};
+ghost use Rattle.ttree_source.specs.Calls.{shown_text};
 ghost use Rattle.ttree_source.specs.JsonText.{json_text};
-ghost use Rattle.ttree_logs.specs.LogFields.{empty_fields, field_of, inner_fields, inner_name, member_fields, members_fields, value_fields};
+ghost use Rattle.ttree_logs.specs.LogFields.{drawn_field, empty_fields, inner_fields, inner_name, member_fields, members_fields, value_fields};
 
 use super::used::UsedKeys;
 use json::Value;
@@ -122,7 +122,8 @@ fn push_array(
     value: &Value<'_>,
 ) -> Result<(), AllocError>
     ensures { OnOk result (fields.new.items
-        ≡ fields.old.items ++ field_of name.now (shown (json_text (value_view value.now)))) }
+        ≡ fields.old.items ++ drawn_field name.now
+        (shown_text (json_text (value_view value.now)))) }
 {
     let text = json_text(alloc, value)?;
     push_field(alloc, fields, name, shown(alloc, text.as_str())?)
@@ -134,7 +135,7 @@ fn push_text(
     name: &str,
     value: &str,
 ) -> Result<(), AllocError>
-    ensures { OnOk result (fields.new.items ≡ fields.old.items ++ field_of name.now value.now) }
+    ensures { OnOk result (fields.new.items ≡ fields.old.items ++ drawn_field name.now value.now) }
 {
     push_field(alloc, fields, name, Text::from_str(alloc, value)?)
 }
@@ -145,7 +146,7 @@ fn push_field(
     name: &str,
     value: Text,
 ) -> Result<(), AllocError>
-    ensures { OnOk result (fields.new.items ≡ fields.old.items ++ field_of name.now value) }
+    ensures { OnOk result (fields.new.items ≡ fields.old.items ++ drawn_field name.now value) }
 {
     let field = Field {
         name: shown(alloc, name)?,

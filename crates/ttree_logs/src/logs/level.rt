@@ -1,7 +1,7 @@
 //! The names of levels.
 
 ghost use Rattle.std.specs.Prelude.{◌≡◌, map};
-ghost use Rattle.ttree_logs.specs.LogLine.{bare_level, is_one_of, level_named, level_of_name, low_level_of_name, same_word};
+ghost use Rattle.ttree_logs.specs.LogLine.{bare_level, is_one_of, level_of_name, level_of_word, low_level_of_name, same_word};
 
 use tracing_tree_base::style::Level;
 
@@ -44,7 +44,7 @@ const ERROR_NAMES: [&str; 17] = [
 
 // Returns the level that a word names.
 pub(super) fn level_named(word: &str) -> Option<Level>
-    ensures { result ≡ level_named word.now }
+    ensures { result ≡ level_of_word word.now }
 {
     level_of_name(bare_level(word))
 }

@@ -2,7 +2,7 @@
 
 ghost use Rattle.std.specs.Prelude.{◌≡◌, ◌++◌, IfOk, OnOk, map, option_map};
 ghost use Rattle.json.specs.Value.{value_view};
-ghost use Rattle.ttree_logs.specs.LogLine.{event_fields, first_key, first_word, group_at, group_in, group_key, group_name, group_of, inner_of, is_of_journal, is_time_at, keys_of_groups, level_at, level_in, level_key, moment_in, process_key, time_key, unit_in, used_keys, word_along, word_at, word_of, word_within};
+ghost use Rattle.ttree_logs.specs.LogLine.{first_key, first_word, group_at, group_in, group_key, group_name, group_of, inner_of, is_of_journal, is_time_at, keys_of_groups, level_at, level_key, line_level, log_event_fields, log_word, moment_in, process_key, time_key, unit_in, used_keys, word_along, word_at, word_within};
 
 use super::fields::push_members;
 use super::level::level_named;
@@ -44,7 +44,7 @@ const GROUP_KEYS: [&str; 8] = [
 
 // Returns a string that isn't empty, or a number as written.
 fn word_of<'v>(value: &'v Value<'_>) -> Option<&'v str>
-    ensures { option_map (λ w. w.now) result ≡ word_of (value_view value.now) }
+    ensures { option_map (λ w. w.now) result ≡ log_word (value_view value.now) }
 {
     match value {
         Value::Number(text) => Some(text),
@@ -103,7 +103,7 @@ fn level_key(value: &Value<'_>) -> Option<&'static str>
 
 // Returns the level of a line, or INFO if the line doesn't name one.
 pub(super) fn level_in(value: &Value<'_>) -> Level
-    ensures { result ≡ level_in (value_view value.now) }
+    ensures { result ≡ line_level (value_view value.now) }
 {
     match level_key(value) {
         Some(key) => level_at(value, key).unwrap_or(Level::Info),
@@ -316,7 +316,7 @@ pub(super) fn event_fields(
     value: &Value<'_>,
 ) -> Result<Fields, AllocError>
     ensures { IfOk result (λ fields.
-        fields ≡ event_fields (option_map (λ k. k.now) asked.entry) (value_view value.now)) }
+        fields ≡ log_event_fields (option_map (λ k. k.now) asked.entry) (value_view value.now)) }
 {
     let used = used_keys(asked, value);
     let mut fields = Vec::new(alloc);

@@ -3,7 +3,7 @@
 ghost use Rattle.std.specs.Prelude.{◌≡◌, ◌≤◌, Some, is_some, option_map, pos};
 ghost use Rattle.std.specs.Str.{all_ascii_digits};
 ghost use Rattle.ttree_source.specs.Moments.{moment_at, moment_of};
-ghost use Rattle.ttree_logs.specs.LogTime.{after_three, billionths, decimal_of, digit_in, is_digits, is_time, moment_of_number, moment_of_word, nanoseconds, nanoseconds_of, thousandths, whole_of};
+ghost use Rattle.ttree_logs.specs.LogTime.{after_three, billionths, decimal_nanoseconds, digit_in, epoch_nanoseconds, is_digits, is_time, moment_of_number, moment_of_word, nanoseconds, thousandths, whole_of};
 
 use jiff::Timestamp;
 use tracing_tree_time::Moment;
@@ -58,7 +58,7 @@ fn moment_at(nanosecond: u64) -> Option<Moment>
 
 // Returns the nanoseconds since 1970 of a number, without a sign or an exponent.
 fn nanoseconds_of(text: &str) -> Option<u64>
-    ensures { result ≡ nanoseconds_of text.now }
+    ensures { result ≡ epoch_nanoseconds text.now }
 {
     match text.split_once('.') {
         Some((before, after)) => decimal_of(before, after),
@@ -68,7 +68,7 @@ fn nanoseconds_of(text: &str) -> Option<u64>
 
 // Like `nanoseconds_of`, for a number with a point, given its parts before and after the point.
 fn decimal_of(before: &str, after: &str) -> Option<u64>
-    ensures { result ≡ decimal_of before.now after.now }
+    ensures { result ≡ decimal_nanoseconds before.now after.now }
 {
     if !is_digits(after) {
         return None;

@@ -4,11 +4,11 @@ use Rattle.std.specs.Ordering.{match_ordering}
 use Rattle.std.specs.declared.cmp.Ordering.{Ordering}
 use Rattle.std.specs.declared.cmp.Ordering.TheVariants.{Less, Equal, Greater}
 use Rattle.std.proofs.lemmas.List.{length-map, map-append}
-use Rattle.ttree_otlp.specs.Keyed.{after_first, first_kept, head_of, kept_at, tail_of, time_of, trace_of, with_kept, without_kept}
+use Rattle.ttree_otlp.specs.Keyed.{after_first, first_kept, first_time, head_of, kept_at, tail_of, trace_of, with_kept, without_kept}
 use Rattle.ttree_otlp.specs.Ties.{unnumbered}
 use Rattle.ttree_otlp.specs.declared.item.Item.{Item}
 use Rattle.ttree_otlp.specs.declared.walk.Row.{Row}
-use Rattle.ttree_otlp.specs.Walk.{WalkState, after_item, begun_walk, entered_as, grouped, is_trace, key_in, left, left_over, left_over_as, next_item, opened, opened_as, own_key, put_first, row_added, rows_in_order, step_count, stepped, stepped_as, stepped_times, trace_item}
+use Rattle.ttree_otlp.specs.Walk.{WalkState, after_item, begun_walk, entered_as, grouped, innermost_left, is_trace, key_in, left_over, left_over_as, next_item, opened_as, own_key, put_first, row_added, row_opened, rows_in_order, step_count, stepped_as, stepped_times, trace_item, walk_stepped}
 use Rattle.ttree_otlp.proofs.Order.Keys.{cmp, is_key}
 
 -- ---- values of a map
@@ -90,13 +90,13 @@ row_added_bare item s =
     ap (λ n. record (bare_walk s) { rows = map bare_row s.rows ++ (record { depth = n - 1; item = unnumbered item }) ∷ [] }) (length-map s.frames bare)
     ∙ ap (λ l. record (bare_walk s) { rows = l }) (sym (map-append bare_row s.rows ((record { depth = length s.frames - 1; item = item }) ∷ [])))
 
-opened_bare : (item : Item) (group : List Item) (s : WalkState) → opened (unnumbered item) (bare group) (bare_walk s) ≡ bare_walk (opened item group s)
+opened_bare : (item : Item) (group : List Item) (s : WalkState) → row_opened (unnumbered item) (bare group) (bare_walk s) ≡ bare_walk (row_opened item group s)
 opened_bare item group s = ap (λ (t : WalkState). record t { frames = bare group ∷ t.frames }) (row_added_bare item s)
 
 opened_as_bare : (o : Option (List Item)) (item : Item) (s : WalkState) → opened_as (option_map bare o) (unnumbered item) (bare_walk s) ≡ bare_walk (opened_as o item s)
 opened_as_bare (Some group) item s = opened_bare item group s
 opened_as_bare None item s = by (is_trace item.shape) where
-  by : (b : Bool) → (if b then bare_walk s else opened (unnumbered item) [] (bare_walk s)) ≡ bare_walk (if b then s else opened item [] s)
+  by : (b : Bool) → (if b then bare_walk s else row_opened (unnumbered item) [] (bare_walk s)) ≡ bare_walk (if b then s else row_opened item [] s)
   by true = refl
   by false = opened_bare item [] s
 
@@ -115,16 +115,17 @@ trace_bare : (group : List Item) → trace_of (bare group) ≡ trace_of group
 trace_bare [] = refl
 trace_bare (row ∷ rows) = refl
 
-time_bare : (group : List Item) → time_of (bare group) ≡ time_of group
+time_bare : (group : List Item) → first_time (bare group) ≡ first_time group
 time_bare [] = refl
 time_bare (row ∷ rows) = refl
 
 left_over_as_bare : (o : Option (List Item)) (s : WalkState) → left_over_as (option_map bare o) (bare_walk s) ≡ bare_walk (left_over_as o s)
 left_over_as_bare None s = refl
 left_over_as_bare (Some group) s =
-    ap (λ t. opened (trace_item t (time_of (bare group))) (bare group) (bare_walk s)) (trace_bare group)
-    ∙ ap (λ t. opened (trace_item (trace_of group) t) (bare group) (bare_walk s)) (time_bare group)
-    ∙ opened_bare (trace_item (trace_of group) (time_of group)) group s
+    ap (λ t. row_opened (trace_item t (first_time (bare group))) (bare group) (bare_walk s)) (trace_bare group)
+    ∙ ap (λ t. row_opened (trace_item (trace_of group) t) (bare group) (bare_walk s))
+    (time_bare group)
+    ∙ opened_bare (trace_item (trace_of group) (first_time group)) group s
 
 left_over_bare : (s : WalkState) → left_over (bare_walk s) ≡ bare_walk (left_over s)
 left_over_bare s =
@@ -132,7 +133,7 @@ left_over_bare s =
     ∙ ap (λ l. left_over_as (option_map bare (first_kept s.groups)) (record (bare_walk s) { groups = l })) (values_after_first bare s.groups)
     ∙ left_over_as_bare (first_kept s.groups) (record s { groups = after_first s.groups })
 
-left_bare : (s : WalkState) → left (bare_walk s) ≡ bare_walk (left s)
+left_bare : (s : WalkState) → innermost_left (bare_walk s) ≡ bare_walk (innermost_left s)
 left_bare s =
     ap (λ n. if nat_lt 1 n then record (bare_walk s) { frames = tail_of (map bare s.frames) } else left_over (bare_walk s)) (length-map s.frames bare)
     ∙ by (nat_lt 1 (length s.frames))
@@ -161,7 +162,7 @@ after_bare : (frames : List (List Item)) → after_item (map bare frames) ≡ ma
 after_bare [] = refl
 after_bare (frame ∷ frames) = ap (λ l. l ∷ map bare frames) (rest_bare frame)
 
-stepped_bare : (s : WalkState) → stepped (bare_walk s) ≡ bare_walk (stepped s)
+stepped_bare : (s : WalkState) → walk_stepped (bare_walk s) ≡ bare_walk (walk_stepped s)
 stepped_bare s =
     ap (λ o. stepped_as o (record (bare_walk s) { frames = after_item (map bare s.frames) })) (next_bare s.frames)
     ∙ ap (λ l. stepped_as (option_map unnumbered (next_item s.frames)) (record (bare_walk s) { frames = l })) (after_bare s.frames)
@@ -169,7 +170,7 @@ stepped_bare s =
 
 stepped_times_bare : (n : ℕ) (s : WalkState) → stepped_times n (bare_walk s) ≡ bare_walk (stepped_times n s)
 stepped_times_bare zero s = refl
-stepped_times_bare (suc n) s = ap stepped (stepped_times_bare n s) ∙ stepped_bare (stepped_times n s)
+stepped_times_bare (suc n) s = ap walk_stepped (stepped_times_bare n s) ∙ stepped_bare (stepped_times n s)
 
 begun_bare : (groups : List (List ℕ × List Item)) → begun_walk (with_values bare groups) ≡ bare_walk (begun_walk groups)
 begun_bare groups =

@@ -2,10 +2,10 @@
 use Rattle.std.proofs.Common.{◌≡◌, ℕ, Bool, true, false, if◌then◌else◌, ◌&&◌, ◌||◌, nat_lt, List, [], ◌∷◌, map, refl, sym, ap, ◌∙◌}
 use Rattle.tracing_tree_base.specs.declared.context.Moment.{Moment}
 use Rattle.ttree_source.specs.declared.cut.Cut.{Cut}
-use Rattle.ttree_otlp.specs.Cut.{count_as, count_with, cut_from, drawn, drawn_with, is_drawn, is_note, is_within, lasts, lasts_as, leaves_out, left_out, sum_of}
-use Rattle.ttree_otlp.specs.Draw.{TreeState, at_time, begun_tree, calls_of_rows, closed_to, finished, row_drawn, row_shown_as, rows_drawn}
+use Rattle.ttree_otlp.specs.Cut.{count_as, count_with, cut_from, drawn, drawn_with, is_drawn, is_note, is_within, lasts, lasts_as, leaves_out, left_out_row, sum_of}
+use Rattle.ttree_otlp.specs.Draw.{TreeState, at_time, begun_tree, calls_of_rows, closed_to, row_drawn, row_shown_as, rows_drawn, rows_finished}
 use Rattle.ttree_otlp.specs.Nested.{contains, without_nested}
-use Rattle.ttree_otlp.specs.Select.{is_around_as, is_selected, is_with_selected, kept_with, selected_of, shown}
+use Rattle.ttree_otlp.specs.Select.{is_around_as, is_selected, is_with_selected, kept_with, selected_of, selected_shown}
 use Rattle.ttree_otlp.specs.Ties.{unnumbered}
 use Rattle.ttree_otlp.specs.declared.item.Item.{Item}
 use Rattle.ttree_otlp.specs.declared.item.Shape.{Shape}
@@ -73,7 +73,7 @@ count_bare depth count (row ∷ rows) =
 drawn_with_bare : (b : Bool) (row : Row) (rows : List Row) → drawn_with b (bare_row row) (map bare_row rows) ≡ map bare_row (drawn_with b row rows)
 drawn_with_bare true row rows = refl
 drawn_with_bare false row rows =
-    (λ i. left_out (count_bare row.depth (count_as row.item.shape) rows i) (bare_row row) ∷ without_nested_bare row.depth rows i)
+    (λ i. left_out_row (count_bare row.depth (count_as row.item.shape) rows i) (bare_row row) ∷ without_nested_bare row.depth rows i)
 
 drawn_bare : (cut : Cut) (rows : List Row) → drawn cut (map bare_row rows) ≡ map bare_row (drawn cut rows)
 drawn_bare cut [] = refl
@@ -86,7 +86,7 @@ cut_bare cut rows = by (leaves_out cut) where
   by true = drawn_bare cut rows
   by false = refl
 
-shown_bare : (selection : Selection) (rows : List Row) → shown selection (map bare_row rows) ≡ map bare_row (shown selection rows)
+shown_bare : (selection : Selection) (rows : List Row) → selected_shown selection (map bare_row rows) ≡ map bare_row (selected_shown selection rows)
 shown_bare selection rows = ap (cut_from selection.cut) (selected_bare selection rows) ∙ cut_bare selection.cut (selected_of selection rows)
 
 -- ---- calls
@@ -103,10 +103,10 @@ rows_bare (row ∷ rows) s =
     ap (rows_drawn (map bare_row rows)) (row_bare_as row.item.shape row.item (at_time row.item.time (closed_to row.depth s))) ∙ rows_bare rows (row_drawn row s)
 
 calls_bare : (next : ℕ) (moment : Moment) (rows : List Row) → calls_of_rows next moment (map bare_row rows) ≡ calls_of_rows next moment rows
-calls_bare next moment rows = ap (λ (s : TreeState). (finished s).calls) (rows_bare rows (begun_tree next moment))
+calls_bare next moment rows = ap (λ (s : TreeState). (rows_finished s).calls) (rows_bare rows (begun_tree next moment))
 
 pub same_calls : (next : ℕ) (moment : Moment) (selection : Selection) (rows others : List Row) → map bare_row rows ≡ map bare_row others
-    → calls_of_rows next moment (shown selection rows) ≡ calls_of_rows next moment (shown selection others)
+    → calls_of_rows next moment (selected_shown selection rows) ≡ calls_of_rows next moment (selected_shown selection others)
 same_calls next moment selection rows others same =
-    sym (calls_bare next moment (shown selection rows)) ∙ ap (calls_of_rows next moment) (sym (shown_bare selection rows) ∙ ap (shown selection) same ∙ shown_bare selection others)
-    ∙ calls_bare next moment (shown selection others)
+    sym (calls_bare next moment (selected_shown selection rows)) ∙ ap (calls_of_rows next moment) (sym (shown_bare selection rows) ∙ ap (selected_shown selection) same ∙ shown_bare selection others)
+    ∙ calls_bare next moment (selected_shown selection others)

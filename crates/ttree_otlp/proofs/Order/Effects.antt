@@ -3,7 +3,7 @@ use Rattle.std.proofs.Common.{◌≡◌, ℕ, Bool, true, false, cond, min, ◌|
 use Rattle.std.specs.Prelude.{⊤}
 use Rattle.std.specs.List.{AllByRecursion}
 use Rattle.std.proofs.lemmas.List.{map-append}
-use Rattle.ttree_otlp.specs.Gather.{GatheredState, added, lost, next_line, note_known, of_service, place_of, trace_seen, trace_seen_as}
+use Rattle.ttree_otlp.specs.Gather.{GatheredState, lost, next_line, note_known, of_service, row_gathered, row_place, trace_seen, trace_seen_as}
 use Rattle.ttree_otlp.specs.Keyed.{key_of, kept_at, with_kept}
 use Rattle.ttree_otlp.specs.Ties.{has_space, unnumbered}
 use Rattle.ttree_otlp.specs.declared.item.Item.{Item}
@@ -41,7 +41,7 @@ done_joined [] fs s = refl
 done_joined (e ∷ es) fs s = done_joined es fs (done e s)
 
 abbrev pub trace_row : List ℕ → ℕ → Item
-trace_row trace time = record { trace = []; above = []; place = place_of time (Trace trace) 0; time = time; shape = Trace trace }
+trace_row trace time = record { trace = []; above = []; place = row_place time (Trace trace) 0; time = time; shape = Trace trace }
 
 -- the rows, with a trace's row each time that it is seen
 abbrev pub raw : List Effect → List ℕ → List Item
@@ -111,7 +111,7 @@ items_done (Seen trace time ∷ es) s seen h k =
         ∙ ap (λ b. map unnumbered s.items ++ cond b (once (raw es s.service) seen) (trace_row trace time ∷ once (raw es s.service) (also trace seen))) (sym (h trace k.0 ∙ here))
     by None is others =
         let here = ap is_some is in
-        others (added [] [] time time (Trace trace) (note_known (key_of trace []) time s)) (also trace seen) (reads_also seen trace time s.known h)
+        others (row_gathered [] [] time time (Trace trace) (note_known (key_of trace []) time s)) (also trace seen) (reads_also seen trace time s.known h)
         ∙ bare_more s.items _ (once (raw es s.service) (also trace seen))
         ∙ ap (λ b. map unnumbered s.items ++ cond b (once (raw es s.service) seen) (trace_row trace time ∷ once (raw es s.service) (also trace seen))) (sym (h trace k.0 ∙ here))
 items_done (Known trace id start ∷ es) s seen h k = items_done es (note_known (key_of trace id) start s) seen (reads_span seen trace id start s.known k.0.0 k.0.1 h) k.1

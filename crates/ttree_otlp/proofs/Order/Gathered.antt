@@ -5,7 +5,7 @@ use Rattle.std.specs.List.{AllByRecursion}
 use Rattle.std.proofs.lemmas.List.{map-append}
 use Rattle.std.proofs.lemmas.List.Elements.{All-from_recursion, recursion_from_All}
 use Rattle.std.proofs.lemmas.List.Sorted.{All-permutation}
-use Rattle.ttree_otlp.specs.Gather.{GatheredState, held, nothing_gathered, place_of, resolved, resolved_as, timed, trace_seen_as}
+use Rattle.ttree_otlp.specs.Gather.{GatheredState, at_earliest, in_known_span, nothing_gathered, resolved, resolved_as, row_place, trace_seen_as}
 use Rattle.ttree_otlp.specs.Keyed.{key_of, kept_at}
 use Rattle.ttree_otlp.specs.Ties.{has_space, unnumbered}
 use Rattle.ttree_otlp.specs.declared.item.Item.{Item}
@@ -22,11 +22,13 @@ use Rattle.ttree_otlp.proofs.Order.Turns.{EachTwo}
 
 -- ---- resolved rows
 
-timed_bare : (o : Option ℕ) (row : Item) → timed o (unnumbered row) ≡ unnumbered (timed o row)
+timed_bare : (o : Option ℕ) (row : Item) → at_earliest o (unnumbered row)
+    ≡ unnumbered (at_earliest o row)
 timed_bare None row = refl
 timed_bare (Some time) row = refl
 
-held_bare : (o : Option ℕ) (row : Item) → held o (unnumbered row) ≡ unnumbered (held o row)
+held_bare : (o : Option ℕ) (row : Item) → in_known_span o (unnumbered row)
+    ≡ unnumbered (in_known_span o row)
 held_bare None row = refl
 held_bare (Some time) row = refl
 
@@ -40,11 +42,11 @@ pub resolved_bare : (known : List (List ℕ × ℕ)) (rows : List Item) → map 
 resolved_bare known [] = refl
 resolved_bare known (row ∷ rows) = (λ i. sym (resolved_bare_as row.shape known row) i ∷ resolved_bare known rows i)
 
-timed_shape : (o : Option ℕ) (row : Item) → (timed o row).shape ≡ row.shape
+timed_shape : (o : Option ℕ) (row : Item) → (at_earliest o row).shape ≡ row.shape
 timed_shape None row = refl
 timed_shape (Some time) row = refl
 
-held_shape : (o : Option ℕ) (row : Item) → (held o row).shape ≡ row.shape
+held_shape : (o : Option ℕ) (row : Item) → (in_known_span o row).shape ≡ row.shape
 held_shape None row = refl
 held_shape (Some time) row = refl
 
@@ -57,11 +59,11 @@ resolved_shape_as (LeftOut count) known row = held_shape (kept_at (key_of row.tr
 resolved_trace : (known : List (List ℕ × ℕ)) (row : Item) → trace_id (resolved known row).shape ≡ trace_id row.shape
 resolved_trace known row = ap trace_id (resolved_shape_as row.shape known row)
 
-timed_index : (o : Option ℕ) (row : Item) → (timed o row).place.index ≡ row.place.index
+timed_index : (o : Option ℕ) (row : Item) → (at_earliest o row).place.index ≡ row.place.index
 timed_index None row = refl
 timed_index (Some time) row = refl
 
-held_index : (o : Option ℕ) (row : Item) → (held o row).place.index ≡ row.place.index
+held_index : (o : Option ℕ) (row : Item) → (in_known_span o row).place.index ≡ row.place.index
 held_index None row = refl
 held_index (Some time) row = refl
 
@@ -110,7 +112,7 @@ rows_numbered es = resolved_numbered (all_done es nothing_gathered).known 0 (all
 abbrev pub canon : List (List ℕ × ℕ) → List ℕ → Item
 canon known id =
     let time = unwrap_or (kept_at (key_of id []) known) 0 in
-    record { trace = []; above = []; place = place_of time (Trace id) 0; time = time; shape = Trace id }
+    record { trace = []; above = []; place = row_place time (Trace id) 0; time = time; shape = Trace id }
 
 abbrev pub IsThere : List (List ℕ × ℕ) → Effect → Type 0
 IsThere known (Row row) = ⊤
@@ -123,7 +125,7 @@ IsThere known Line = ⊤
 canon_timed : (known : List (List ℕ × ℕ)) (trace : List ℕ) (time : ℕ) → is_some (kept_at (key_of trace []) known) ≡ true → resolved known (trace_row trace time) ≡ canon known trace
 canon_timed known trace time h = by (kept_at (key_of trace []) known) h where
   by : (o : Option ℕ) → is_some o ≡ true
-      → timed o (trace_row trace time) ≡ (let t = unwrap_or o 0 in record { trace = []; above = []; place = place_of t (Trace trace) 0; time = t; shape = Trace trace })
+      → at_earliest o (trace_row trace time) ≡ (let t = unwrap_or o 0 in record { trace = []; above = []; place = row_place t (Trace trace) 0; time = t; shape = Trace trace })
   by (Some first) there = refl
   by None there = absurd (true≢false (sym there))
 

@@ -4,12 +4,12 @@ use Rattle.std.specs.Prelude.{⊤}
 use Rattle.std.specs.List.{AllByRecursion}
 use Rattle.json.specs.Json.{Json, Items, no_items, item, document}
 use Rattle.json.specs.Find.{get}
-use Rattle.ttree_otlp.specs.Item.{above_of, event_note, failed_note, link_note, log_note, log_time, span_of, unfinished_note}
-use Rattle.ttree_otlp.specs.Named.{has_failed}
+use Rattle.ttree_otlp.specs.Item.{above_of, event_note, failed_note, link_note, log_note, log_time, span_read, unfinished_note}
+use Rattle.ttree_otlp.specs.Named.{status_is_error}
 use Rattle.ttree_otlp.specs.Read.{count_at, id_at, items_at, service_in}
 use Rattle.ttree_source.specs.Blanks.{first_byte}
 use Rattle.ttree_source.specs.Marks.{is_empty}
-use Rattle.ttree_otlp.specs.Gather.{GatheredState, added, end_taken, event_taken, events_taken, is_export, line_taken, line_taken_as, lines_taken, links_taken, log_added, log_taken, logs_taken, lost, next_line, note_known, notes_taken, object_taken, of_service, place_of, resource_taken, resources_taken, scope_taken, scopes_taken, span_added, span_taken, spans_taken, status_taken, trace_seen, trace_seen_as, value_taken}
+use Rattle.ttree_otlp.specs.Gather.{GatheredState, end_taken, event_taken, events_taken, is_export, line_taken_as, lines_taken, links_taken, log_added, log_taken, logs_taken, lost, next_line, note_known, notes_taken, object_taken, of_service, otlp_line_taken, resource_taken, resources_taken, row_gathered, row_place, scope_taken, scopes_taken, span_added, span_taken, spans_taken, status_taken, trace_seen, trace_seen_as, value_taken}
 use Rattle.ttree_otlp.specs.Keyed.{key_of, kept_at}
 use Rattle.ttree_otlp.specs.Ties.{has_space}
 use Rattle.ttree_otlp.specs.declared.item.Item.{Item}
@@ -92,15 +92,15 @@ row_runs row h = record { effects = Row row ∷ []; is = λ s. refl; plain = λ 
 
 -- a row of an event, a link and so on
 abbrev row_of : List ℕ → List ℕ → ℕ → ℕ → Shape → Item
-row_of trace above order time shape = record { trace = trace; above = above; place = place_of order shape 0; time = time; shape = shape }
+row_of trace above order time shape = record { trace = trace; above = above; place = row_place order shape 0; time = time; shape = shape }
 
-link_runs : (trace span : List ℕ) (time : ℕ) (value : Json) → Runs (λ s. added trace span 0 time (Note (link_note s.service value)) s)
+link_runs : (trace span : List ℕ) (time : ℕ) (value : Json) → Runs (λ s. row_gathered trace span 0 time (Note (link_note s.service value)) s)
 link_runs trace span time value = row_runs (λ service. row_of trace span 0 time (Note (link_note service value))) (λ service. refl)
 
 links_run : (trace span : List ℕ) (time : ℕ) (links : Items) → Runs (links_taken trace span time links)
 links_run trace span time no_items = nothing_runs
 links_run trace span time (item value others) =
-    both_run (λ s. added trace span 0 time (Note (link_note s.service value)) s) (links_taken trace span time others) (link_runs trace span time value) (links_run trace span time others)
+    both_run (λ s. row_gathered trace span 0 time (Note (link_note s.service value)) s) (links_taken trace span time others) (link_runs trace span time value) (links_run trace span time others)
 
 event_runs : (trace span : List ℕ) (value : Json) → Runs (event_taken trace span value)
 event_runs trace span value =
@@ -113,13 +113,13 @@ events_run trace span (item value others) = both_run (event_taken trace span val
 
 end_runs : (trace span : List ℕ) (end : ℕ) → Runs (end_taken trace span end)
 end_runs trace span end =
-    either_runs (end == 0) (λ s. added trace span (2 ^ 64 - 1) 0 (Note (unfinished_note s.service)) s) (λ s. s)
+    either_runs (end == 0) (λ s. row_gathered trace span (2 ^ 64 - 1) 0 (Note (unfinished_note s.service)) s) (λ s. s)
     (row_runs (λ service. row_of trace span (2 ^ 64 - 1) 0 (Note (unfinished_note service))) (λ service. refl)) nothing_runs
 
 status_runs : (trace span : List ℕ) (end : ℕ) (status : Option Json) → Runs (status_taken trace span end status)
 status_runs trace span end None = nothing_runs
 status_runs trace span end (Some status) =
-    either_runs (has_failed status) (λ s. added trace span (2 ^ 64 - 1) end (Note (failed_note s.service status)) s) (λ s. s)
+    either_runs (status_is_error status) (λ s. row_gathered trace span (2 ^ 64 - 1) end (Note (failed_note s.service status)) s) (λ s. s)
     (row_runs (λ service. row_of trace span (2 ^ 64 - 1) end (Note (failed_note service status))) (λ service. refl)) nothing_runs
 
 notes_run : (trace span : List ℕ) (value : Json) → Runs (notes_taken trace span value)
@@ -138,7 +138,7 @@ span_added_runs : (trace id : List ℕ) (value : Json) → (id ≡ [] → ⊥) �
 span_added_runs trace id value full =
     let start = count_at (codes "startTimeUnixNano") value in
     let notes = notes_run trace id value in
-    let row : List ℕ → Item = λ service. row_of trace (above_of id (id_at (codes "parentSpanId") value)) start start (Span (span_of service value)) in
+    let row : List ℕ → Item = λ service. row_of trace (above_of id (id_at (codes "parentSpanId") value)) start start (Span (span_read service value)) in
     let inside : GatheredState → GatheredState = λ s. note_known (key_of trace id) start (trace_seen trace start s) in
     record {
       effects = Seen trace start ∷ Known trace id start ∷ (notes.effects ++ Row row ∷ []);
@@ -268,7 +268,7 @@ value_reads (Some value) = by (is_export value) where
   by true = object_reads value
   by false = lost_reads
 
-pub reads_line : (line : List ℕ) → Reads (line_taken line)
+pub reads_line : (line : List ℕ) → Reads (otlp_line_taken line)
 reads_line line = by (first_byte line) where
   by : (byte : Option ℕ) → Reads (λ s. line_taken_as byte line (next_line s))
   by None = line_reads
@@ -280,4 +280,4 @@ effects_of line = (reads_line line).effects
 pub lines_done : (lines : List (List ℕ)) (s : GatheredState) → lines_taken lines s ≡ all_done (flat_map effects_of lines) s
 lines_done [] s = refl
 lines_done (line ∷ lines) s =
-    lines_done lines (line_taken line s) ∙ ap (all_done (flat_map effects_of lines)) ((reads_line line).is s) ∙ sym (done_joined (effects_of line) (flat_map effects_of lines) s)
+    lines_done lines (otlp_line_taken line s) ∙ ap (all_done (flat_map effects_of lines)) ((reads_line line).is s) ∙ sym (done_joined (effects_of line) (flat_map effects_of lines) s)

@@ -3,7 +3,7 @@
 use Rattle.std.proofs.Common.{◌≡◌, ℕ, Bool, true, false, cond, min, ◌||◌, List, [], ◌∷◌, ◌++◌, map, flat_map, IsPermutation, Option, Some, None, is_some, refl, sym, ap, ◌∙◌, true≢false, arith, rules}
 use Rattle.std.specs.Prelude.{⊤}
 use Rattle.std.specs.List.{AllByRecursion}
-use Rattle.ttree_otlp.specs.Gather.{GatheredState, held, resolved, resolved_as, timed, trace_seen_as}
+use Rattle.ttree_otlp.specs.Gather.{GatheredState, at_earliest, in_known_span, resolved, resolved_as, trace_seen_as}
 use Rattle.ttree_otlp.specs.Keyed.{key_of, kept_at, with_kept}
 use Rattle.ttree_otlp.specs.Ties.{has_space}
 use Rattle.ttree_otlp.specs.declared.item.Item.{Item}
@@ -186,7 +186,8 @@ module _ {L : Type 0} (effects : L → List Effect) where
 
 -- ---- the spans in which rows are nested
 
-held_by : (o p : Option ℕ) (row : Item) → is_some o ≡ is_some p → held o row ≡ held p row
+held_by : (o p : Option ℕ) (row : Item) → is_some o ≡ is_some p → in_known_span o row
+    ≡ in_known_span p row
 held_by None None row h = refl
 held_by None (Some b) row h = absurd (true≢false (sym h))
 held_by (Some a) None row h = absurd (true≢false h)
@@ -201,7 +202,7 @@ IsClear row = ClearAs (trace_id row.shape)
 
 module _ (one other : List (List ℕ × ℕ)) (there : (q : List ℕ) → is_some (kept_at q one) ≡ is_some (kept_at q other)) (times : (trace : List ℕ) → has_space trace ≡ false → kept_at (key_of trace []) one ≡ kept_at (key_of trace []) other) where
   resolved_alike_as : (shape : Shape) (row : Item) → ClearAs (trace_id shape) → resolved_as shape one row ≡ resolved_as shape other row
-  resolved_alike_as (Trace id) row clear = ap (λ o. timed o row) (times id clear)
+  resolved_alike_as (Trace id) row clear = ap (λ o. at_earliest o row) (times id clear)
   resolved_alike_as (Span span) row clear = held_by _ _ row (there (key_of row.trace row.above))
   resolved_alike_as (Note note) row clear = held_by _ _ row (there (key_of row.trace row.above))
   resolved_alike_as (LeftOut count) row clear = held_by _ _ row (there (key_of row.trace row.above))

@@ -1,7 +1,7 @@
 //! The block behind a result.
 
 ghost use Rattle.std.specs.Prelude.{◌≡◌, IfOk, OnOk};
-ghost use Rattle.ttree_tap.specs.Tap.{after_taken, block_begun, block_taken, detail_taken, inside_taken, outside_taken, spanned, timed, waits, with_span};
+ghost use Rattle.ttree_tap.specs.Tap.{after_taken, block_begun, block_taken, detail_taken, inside_taken, outside_taken, result_timed, spanned, waits, with_own_span};
 ghost use Rattle.ttree_tap.specs.Texts.{begins_block, duration_of};
 
 use super::Tap;
@@ -70,7 +70,7 @@ impl Tap {
     }
 
     fn time(&mut self, waiting: Waiting, nanoseconds: u64) -> Result<(), AllocError>
-        ensures { OnOk result (self.new ≡ timed waiting nanoseconds self.old) }
+        ensures { OnOk result (self.new ≡ result_timed waiting nanoseconds self.old) }
     {
         let elapsed = length_text(self.alloc, nanoseconds)?;
         self.wait(Waiting { elapsed, ..waiting });
@@ -103,7 +103,7 @@ impl Tap {
 
     // Opens the span of a result, unless it has one.
     fn with_span(&mut self, waiting: Waiting) -> Result<Waiting, AllocError>
-        ensures made { IfOk result (λ made. made ≡ with_span waiting self.old) }
+        ensures made { IfOk result (λ made. made ≡ with_own_span waiting self.old) }
         ensures after { OnOk result (self.new ≡ spanned waiting self.old) }
     {
         if waiting.span.is_some() {

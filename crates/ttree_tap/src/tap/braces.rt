@@ -1,7 +1,7 @@
 //! Subtests in braces.
 
 ghost use Rattle.std.specs.Prelude.{◌≡◌, [], OnOk, None};
-ghost use Rattle.ttree_tap.specs.Tap.{brace_ended, brace_taken, braces_opened, held_taken, opened_inside, place_of, result_beside, result_held, unheld_taken};
+ghost use Rattle.ttree_tap.specs.Tap.{brace_ended, brace_taken, braces_opened, held_taken, line_place, opened_inside, result_beside, result_held, unheld_taken};
 
 use super::Tap;
 use super::results::{Mark, name_in};
@@ -127,7 +127,7 @@ impl Tap {
 
 // Returns where a line of this kind in the column `other` is, after a result in this column.
 fn place_of(column: usize, other: usize, kind: Kind) -> Place
-    ensures { result ≡ place_of column other kind }
+    ensures { result ≡ line_place column other kind }
 {
     if column < other && begins_inside(kind) {
         Place::Inside

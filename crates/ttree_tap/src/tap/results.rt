@@ -2,7 +2,7 @@
 
 ghost use Rattle.std.specs.Prelude.{◌≡◌, ◌++◌, [], IfOk, OnOk, None, string_bytes, true, false};
 ghost use Rattle.ttree_tap.specs.Tap.{given_taken, is_kept_plan, is_unjudged, missed, number_taken, one_counted, plan_kept, plan_missed, plan_set, plan_taken, restarted, result_in, result_placed, result_taken, results_missed, script_missed, skip_emitted, subtest_ended, waiting_of, without_heading};
-ghost use Rattle.ttree_tap.specs.Texts.{label_of, leaf_label, length_if, missing_text, name_as, name_in, no_plan_text, plan_text, reason_as, subtest_label};
+ghost use Rattle.ttree_tap.specs.Texts.{label_of, leaf_label, length_if, missing_text, name_as, no_plan_text, plan_text, reason_as, result_name, subtest_label};
 
 use super::subtests::Subtest;
 use super::waiting::{Waiting, end_fields};
@@ -298,7 +298,7 @@ impl Tap {
 
 // Returns the description of a result, without its note.
 pub(super) fn name_in(rest: &str) -> &str
-    ensures { result.now ≡ name_in rest.now }
+    ensures { result.now ≡ result_name rest.now }
 {
     let text = described(rest);
     let parts = parts_of(text);

@@ -2,7 +2,7 @@
 
 ghost use Rattle.std.specs.Prelude.{◌≡◌, [], IfOk, OnOk, Some};
 ghost use Rattle.tracing_tree_spans.specs.Registry.Ids.{id_of};
-ghost use Rattle.ttree_tap.specs.Tap.{closed, closed_if, error_emitted, line_emitted, lines_claimed, opened, row_emitted, emitted};
+ghost use Rattle.ttree_tap.specs.Tap.{test_span_closed, closed_if, error_emitted, tap_line_emitted, lines_claimed, test_span_opened, row_emitted, call_queued};
 
 use super::Tap;
 use crate::queue::Role;
@@ -15,7 +15,7 @@ use ttree_source::calls::{close_call, event_call, message_field, span_call};
 
 impl Tap {
     pub(super) fn push(&mut self, role: Role, call: Call) -> Result<(), AllocError>
-        ensures { OnOk result (self.new ≡ emitted role call self.old) }
+        ensures { OnOk result (self.new ≡ call_queued role call self.old) }
     {
         self.queue.add(role, call)
     }
@@ -44,7 +44,7 @@ impl Tap {
         text: &str,
         span: Option<Id>,
     ) -> Result<(), AllocError>
-        ensures { OnOk result (self.new ≡ line_emitted role text.now span self.old) }
+        ensures { OnOk result (self.new ≡ tap_line_emitted role text.now span self.old) }
     {
         let fields = Fields::one(self.alloc, message_field(self.alloc, text)?);
         let call = event_call(self.alloc, self.moment, Level::Info, fields, span)?;
@@ -71,7 +71,7 @@ impl Tap {
     // Opens a span, and returns its id.
     pub(super) fn open(&mut self, name: &str, parent: Option<Id>) -> Result<Option<Id>, AllocError>
         ensures id { IfOk result (λ id. id ≡ Some (id_of self.old.next)) }
-        ensures opened { OnOk result (self.new ≡ opened name.now parent self.old) }
+        ensures opened { OnOk result (self.new ≡ test_span_opened name.now parent self.old) }
     {
         self.claim_lines(name)?;
         let fields = Fields::new(self.alloc);
@@ -98,7 +98,7 @@ impl Tap {
 
     // Closes a span. If it is left out, its id is free again: all later spans were in it.
     fn close(&mut self, id: Id, parent: Option<Id>) -> Result<(), AllocError>
-        ensures { OnOk result (self.new ≡ closed id parent self.old) }
+        ensures { OnOk result (self.new ≡ test_span_closed id parent self.old) }
     {
         if self.queue.is_held() {
             self.next = id.0;

@@ -1,7 +1,7 @@
 //! Subtests: spans by their columns.
 
 ghost use Rattle.std.specs.Prelude.{◌≡◌, [], IfOk, OnOk, None};
-ghost use Rattle.ttree_tap.specs.Tap.{come, come_to, deepened, deeper_left, inner_column, inner_left, is_nested, left, new_subtest, script, script_closed, subtest_opened};
+ghost use Rattle.ttree_tap.specs.Tap.{come, come_to, deepened, deeper_left, inner_column, inner_left, is_nested, new_subtest, script, script_closed, subtest_left, subtest_opened};
 
 use super::Tap;
 use super::braces::Braced;
@@ -136,7 +136,7 @@ impl Tap {
 
     // Leaves a subtest that has no result.
     pub(super) fn leave(&mut self) -> Result<(), AllocError>
-        ensures { OnOk result (self.new ≡ left self.old) }
+        ensures { OnOk result (self.new ≡ subtest_left self.old) }
     {
         let Some(parent) = self.outer.pop_front() else {
             return Ok(());

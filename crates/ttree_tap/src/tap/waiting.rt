@@ -1,8 +1,8 @@
 //! A result that waits for its block.
 
 ghost use Rattle.std.specs.Prelude.{◌≡◌, ◌++◌, IfOk, OnOk};
-ghost use Rattle.ttree_tap.specs.Tap.{finished, flushed, role_in, role_of};
-ghost use Rattle.ttree_tap.specs.Texts.{end_fields, end_text, value_field};
+ghost use Rattle.ttree_tap.specs.Tap.{flushed, result_finished, role_in, role_of};
+ghost use Rattle.ttree_tap.specs.Texts.{end_text, result_end_fields, value_field};
 
 use super::Tap;
 use crate::queue::Role;
@@ -43,9 +43,9 @@ impl Tap {
     }
 
     // Ends a result.
-    #[tactic(auto, unfolding(crate::specs::Tap::finished))]
+    #[tactic(auto, unfolding(crate::specs::Tap::result_finished))]
     pub(super) fn finish(&mut self, waiting: Waiting) -> Result<(), AllocError>
-        ensures { OnOk result (self.new ≡ finished waiting self.old) }
+        ensures { OnOk result (self.new ≡ result_finished waiting self.old) }
     {
         let text = end_text(self.alloc, waiting.verdict, waiting.label.as_str())?;
         let fields = end_fields(
@@ -101,7 +101,7 @@ pub(super) fn end_fields(
     reason: &str,
     elapsed: &str,
 ) -> Result<Vec<Field>, AllocError>
-    ensures { IfOk result (λ fields. fields.items ≡ end_fields reason.now elapsed.now) }
+    ensures { IfOk result (λ fields. fields.items ≡ result_end_fields reason.now elapsed.now) }
 {
     let mut fields = Vec::new(alloc);
     push_field(alloc, &mut fields, "reason", reason)?;

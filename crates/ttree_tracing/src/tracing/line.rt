@@ -2,7 +2,7 @@
 
 ghost use Rattle.std.specs.Prelude.{◌≡◌, IfOk, option_map};
 ghost use Rattle.json.specs.Value.{items_view, value_view};
-ghost use Rattle.ttree_tracing.specs.TracingLine.{bare_thread, fields_within, is_current, is_message, is_timed_close, items_listed, kind_in, kind_of, kind_of_message, label_in, line_fields, lists_same, listed_of, may_be, names_span, object_at, other_parent, parent_in, path_in, span_in, spans_in, thread_in, thread_label};
+ghost use Rattle.ttree_tracing.specs.TracingLine.{bare_thread, fields_within, is_current, is_message_with, is_timed_close, items_listed, line_kind, kind_by_message, kind_of_message, label_in, line_fields, lists_same, listed_of, may_be, names_span, object_at, other_parent, parent_in, path_in, listed_span, spans_in, thread_in, thread_label};
 
 use json::Value;
 use std::alloc::{AllocError, Global};
@@ -114,7 +114,7 @@ pub(super) fn line_fields(alloc: Global, value: &Value<'_>) -> Result<Fields, Al
 
 // Returns the current span of a line.
 pub(super) fn span_in(alloc: Global, value: &Value<'_>) -> Result<Option<Listed>, AllocError>
-    ensures { IfOk result (λ span. span ≡ span_in (value_view value.now)) }
+    ensures { IfOk result (λ span. span ≡ listed_span (value_view value.now)) }
 {
     match object_at(value, "span") {
         Some(span) => Ok(Some(listed_of(alloc, span)?)),
@@ -206,7 +206,7 @@ pub(super) fn kind_in(
     fields: &[Field],
     value: &Value<'_>,
 ) -> Result<Kind, AllocError>
-    ensures { IfOk result (λ kind. kind ≡ kind_in fields.now (value_view value.now)) }
+    ensures { IfOk result (λ kind. kind ≡ line_kind fields.now (value_view value.now)) }
 {
     if !names_span(value) {
         return Ok(Kind::Event);
@@ -285,14 +285,14 @@ fn is_timed_close(fields: &[Field]) -> bool
 
 // Returns whether a field is a message with this value.
 fn is_message(field: &Field, text: &str) -> bool
-    ensures { result ≡ is_message field.now text.now }
+    ensures { result ≡ is_message_with field.now text.now }
 {
     field.name.as_str() == "message" && field.value.as_str() == text
 }
 
 // Returns what a line reports that names a span and has no times.
 fn kind_of(fields: &[Field], is_current: bool) -> Kind
-    ensures { result ≡ kind_of fields.now is_current }
+    ensures { result ≡ kind_by_message fields.now is_current }
 {
     match fields {
         [message] => kind_of_message(message, is_current),

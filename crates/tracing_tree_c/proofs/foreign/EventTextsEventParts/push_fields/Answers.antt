@@ -3,7 +3,7 @@ use Rattle.std.proofs.lemmas.Grind.{common_steps}
 use Rattle.tracing_tree_base.specs.Field.{rendered_field}
 use Rattle.tracing_tree_drawing.specs.Format.Texts.{comma_after, event_field, event_fields}
 use Rattle.tracing_tree_layer.proofs.FieldTexts.{added_fields-false}
-use Rattle.tracing_tree_c.specs.Foreign.{fields_of}
+use Rattle.tracing_tree_c.specs.Foreign.{foreign_fields}
 use Rattle.tracing_tree_c.proofs.Fields.{no_field, pushed, tail_of}
 use Rattle.tracing_tree_c.proofs.Makes.{head_of}
 use Rattle.tracing_tree_c.proofs.foreign.EventTextsEventParts.push_fields.Goals as goal
@@ -26,6 +26,6 @@ pub returns : goal.returns
 returns c =
     let given = c.self.inside.fields.now in
     let none : drop c.loop-field.field-index given ≡ [] = grind (arith, common_steps) in
-    let same : fields_of given ≡ c.args.self.now.fields = search in
+    let same : foreign_fields given ≡ c.args.self.now.fields = search in
     sym (append-nil _) ∙ (rw none at c.loop-field.invariant.0)
-    ∙ ap (λ text. string_bytes c.args.out.now ++ text) (added_fields-false (fields_of given) ∙ ap event_fields same)
+    ∙ ap (λ text. string_bytes c.args.out.now ++ text) (added_fields-false (foreign_fields given) ∙ ap event_fields same)

@@ -1,7 +1,7 @@
 use Rattle.std.proofs.Common.{◌≡◌, false, true, option_map, subst}
 use Rattle.std.specs.Prelude.{OnOk}
 use Rattle.ttree_source.specs.Marks.{is_empty}
-use Rattle.ttree_go_test.specs.GoTest.{GoState, Held, held, holds, package_ended, test_ended}
+use Rattle.ttree_go_test.specs.GoTest.{GoState, Held, held_test, holds, package_ended, test_ended}
 use Rattle.ttree_go_test.proofs.go_test.GoTest.end.Goals as goal
 
 pub returns : goal.returns
@@ -9,7 +9,7 @@ returns c =
     let path = c.args.path.now in
     let test = c.args.test.now in
     let empty : is_empty test ≡ false = cc in
-    let owner : GoState → Type 0 = λ s. holds c.in_ok-owner.owner c.take_owner.new.self ≡ held path test s in
+    let owner : GoState → Type 0 = λ s. holds c.in_ok-owner.owner c.take_owner.new.self ≡ held_test path test s in
     let done : Held → Type 0 = λ h. OnOk c.end_test.result (c.end_test.new.self ≡ test_ended c.args.ending test (option_map (λ e. e.now) c.args.elapsed) h) in
     rw empty (subst done (subst owner c.in_ok-count.ensures c.in_ok-owner.ensures) c.end_test.ensures)
 

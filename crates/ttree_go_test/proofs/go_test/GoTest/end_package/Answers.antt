@@ -1,7 +1,7 @@
 use Rattle.std.proofs.Common.{◌≡◌, [], option_map, ap, ◌∙◌, subst}
 use Rattle.std.specs.Prelude.{OnOk}
 use Rattle.ttree_go_test.specs.Names.{without}
-use Rattle.ttree_go_test.specs.GoTest.{GoState, Held, all_left_over, finished, holds, left_as, left_over, package_counted, package_ended, running_as, tests_of, without_package}
+use Rattle.ttree_go_test.specs.GoTest.{GoState, Held, all_left_over, held_finished, holds, left_as, left_over, package_counted, package_ended, running_as, tests_of, without_package}
 use Rattle.ttree_go_test.proofs.go_test.GoTest.end_package.Goals as goal
 
 pub returns : goal.returns
@@ -16,5 +16,5 @@ returns c =
     let own : c.in_ok-package.package ≡ running_as path [] (tests_of path all) = c.in_ok-package.ensures.one ∙ (λ i. running_as path (empty i) (tests i)) in
     let inner : c.take_running.new.tests ≡ without [] (tests_of path all) = c.in_ok-package.ensures.rest ∙ (λ i. without (empty i) (tests i)) in
     let left : c.leave_over.new.self ≡ all_left_over (left_as ending) path all = c.in_ok-leave_over.ensures ∙ (λ i. left_over (c.of_left.ensures i) (own i).span [] (inner i) (others i)) in
-    let done : Held → Type 0 = λ h. OnOk c.finish.result (c.finish.new.self ≡ finished ending (option_map (λ e. e.now) c.args.elapsed) h) in
+    let done : Held → Type 0 = λ h. OnOk c.finish.result (c.finish.new.self ≡ held_finished ending (option_map (λ e. e.now) c.args.elapsed) h) in
     subst done (λ i. holds (own i) (left i)) c.finish.ensures

@@ -1,11 +1,11 @@
 use Rattle.std.proofs.Common.{◌≡◌, ap, ◌∙◌, subst}
 use Rattle.std.specs.Prelude.{OnOk}
 use Rattle.ttree_go_test.specs.Names.{put}
-use Rattle.ttree_go_test.specs.GoTest.{GoState, kept, tests_of, with_package, without_package}
+use Rattle.ttree_go_test.specs.GoTest.{GoState, test_kept, tests_of, with_package, without_package}
 use Rattle.ttree_go_test.proofs.go_test.GoTest.keep.Goals as goal
 
 pub returns : goal.returns
-unfolding kept
+unfolding test_kept
 returns c =
     let s = c.args.self.now in
     let one = c.args.one in

@@ -2,7 +2,7 @@ use Rattle.std.proofs.Common.{[], ◌++◌, sym, ap, subst, ◌∙◌, append_as
 use Rattle.std.proofs.KnownBytes.{Appends-trans}
 use Rattle.std.proofs.lemmas.Result.{err_from_is_err_and}
 use Rattle.std.specs.Io.KnownBytes.{Appends}
-use Rattle.ttree_terminal.specs.Lines.{ended, left, shaped}
+use Rattle.ttree_terminal.specs.Lines.{held_after_bytes, lines_ended, shaped}
 use Rattle.ttree_terminal.proofs.Taken.{all_or_part, ends_line, ends_none, held_when_ok}
 use Rattle.ttree_terminal.proofs.writer.Shaped.take_lines.Goals as goal
 
@@ -14,7 +14,7 @@ returns-in_err-write_line-clause-written g c =
     let line = c.split_at.result.0.now in
     let rest = c.split_at.result.1.now in
     let first = ends_line it.shaping it.held c.loop-length.rest.now line rest c.in-Some.length c.in-Some.ensures c.split_at.ensures.front c.split_at.ensures.back in
-    let after = ended it.shaping [] rest in
+    let after = lines_ended it.shaping [] rest in
     let failed = err_from_is_err_and c.from_residual.result c.from_residual.ensures.1 in
     rw failed.1 (
       done ++ part,
@@ -33,10 +33,11 @@ loop-length-preserved g c =
     let first = ends_line it.shaping it.held c.loop-length.rest.now line rest c.in-Some.length c.in-Some.ensures c.split_at.ensures.front c.split_at.ensures.back in
     let written = shaped it.shaping (it.held ++ line) in (
       done ++ written,
-      lines ∙ ap (λ l. done ++ l) (first.lines ∙ ap (λ s. written ++ ended s _ rest) (sym c.in_ok-write_line.ensures.same) ∙ ap (λ h. written ++ ended next.shaping h rest) (sym c.in_ok-write_line.ensures.held))
-          ∙ sym (append_assoc done written (ended next.shaping next.held rest)),
+      lines ∙ ap (λ l. done ++ l) (first.lines ∙ ap (λ s. written ++ lines_ended s _ rest) (sym c.in_ok-write_line.ensures.same) ∙ ap (λ h. written ++ lines_ended next.shaping h rest) (sym c.in_ok-write_line.ensures.held))
+          ∙ sym (append_assoc done written (lines_ended next.shaping next.held rest)),
       Appends-trans _ _ _ _ _ appended c.in_ok-write_line.ensures.written,
-      rest_held ∙ first.rest_held ∙ ap (λ h. left h rest) (sym c.in_ok-write_line.ensures.held),
+      rest_held ∙ first.rest_held
+          ∙ ap (λ h. held_after_bytes h rest) (sym c.in_ok-write_line.ensures.held),
       c.in_ok-write_line.ensures.same ∙ same,
     )
 
