@@ -147,8 +147,8 @@ fuzz: need-python build ## runs random and damaged lines
 # the memory and the speed at the start and at the end.
 soak: need-python need-cc build bin/bench ## makes 10^8 calls
 	@$(CC) -O2 -o bin/soak scripts/soak.c
-	@python3 scripts/soak.py bin/tracing_tree bin/soak $(SOAKED)
-	@python3 scripts/soak_calls.py bin/bench $(SOAKED_CALLS)
+	@python3 scripts/soak.py bin/tracing_tree --lines bin/soak $(SOAKED)
+	@python3 scripts/soak.py bin/bench $(SOAKED_CALLS)
 
 # Outside the gate. Writes again the figures with which the gate compares the library's use of
 # memory.

@@ -15,6 +15,8 @@ import subprocess
 import sys
 import tempfile
 
+from runs import Runs
+
 TOP = pathlib.Path(__file__).resolve().parent.parent
 sys.path.insert(0, str(TOP / "viewer"))
 import build  # noqa: E402
@@ -150,15 +152,13 @@ def leaves_as_rows(calls):
             yield {**call, "id": ids[call["id"]]}
 
 
-class Runs:
+class Pages(Runs):
     def __init__(self, ttree, tree, room):
-        self.ttree, self.tree, self.room, self.count, self.wrong = ttree, tree, pathlib.Path(room), 0, 0
+        super().__init__("program ttree's pages")
+        self.ttree, self.tree, self.room = ttree, tree, pathlib.Path(room)
 
     def check(self, name, is_right, what=""):
-        self.count += 1
-        if not is_right:
-            self.wrong += 1
-            print(f"program ttree's pages: {name}: FAILED {str(what)[:500]}")
+        self.add(is_right, f"{self.name}: {name}: FAILED {str(what)[:500]}")
 
     def try_input(self, name, path, *options):
         """Checks the page, the JSON lines and the calls of an input."""
@@ -293,11 +293,10 @@ def try_messages(runs):
 def main():
     args = sys.argv[1:]
     with tempfile.TemporaryDirectory() as room:
-        runs = Runs(*(str(pathlib.Path(it).resolve()) for it in args), room)
+        runs = Pages(*(str(pathlib.Path(it).resolve()) for it in args), room)
         try_all(runs)
         try_messages(runs)
-    print(f"program ttree's pages: {runs.count - runs.wrong} of {runs.count} runs ended as they must")
-    return 1 if runs.wrong else 0
+    return runs.end()
 
 
 if __name__ == "__main__":
