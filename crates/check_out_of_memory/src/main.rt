@@ -1,4 +1,4 @@
-//! Does a work in which any one allocation may fail. A failure must leave everything unchanged, and
+//! Does a work while any one allocation may fail. A failure must leave everything unchanged, and
 //! a second attempt must be answered as with enough memory.
 //!
 //! The argument is the name of a work. Without one, all are done. Everything that a work needs is

@@ -24,7 +24,7 @@ use ttree_source::values::{is_object, value_of};
 /// A line that isn't JSON and has the mark is taken without its prefix, which comes last among the
 /// fields of the line's events. If the prefix names a stream, such as a service, a line that isn't
 /// an object stays in it: if the last object was of another stream, it is an event in the span of
-/// the last event of its own. Every other line is taken unchanged.
+/// its stream's last event. Every other line is taken unchanged.
 #[derive(Drop)]
 pub struct Prefixed<S> {
     source: S,

@@ -1,4 +1,4 @@
-//! The fixed texts of a page. viewer/build.py writes this file.
+//! The fixed strings of a page. viewer/build.py writes this file.
 
 /// What comes before the data of a page: the style and the viewer, up to the start of the element that
 /// has the data.
