@@ -76,8 +76,8 @@ def at_most(kind, count):
 
 
 def little_memory(limits, inputs):
-    """Limits the address space. The program starts under the first limit, and not under a smaller one. With
-    the next ones it runs out of memory at several places."""
+    """Limits the address space. The program starts under the first limit, and not under a smaller
+    one. With the next ones it runs out of memory at several places."""
     for given in inputs:
         name = f"little memory, program {given.program}"
         empty = Lines("settings alone", [b"{}"]) if given.program == 0 else Drawing("nothing", b"")

@@ -1,5 +1,6 @@
 #!/usr/bin/env python3
-"""Compares the pages and the JSON lines of ttree with docs/reference/pages.md: page.py TTREE DRAWING_PROGRAM
+"""Compares the pages and the JSON lines of ttree with docs/reference/pages.md: page.py TTREE
+DRAWING_PROGRAM
 
 For each input, the page's bytes before and after the data must be those of viewer/build.py. Each
 line of the data must be what viewer/pages.py writes for its values, without `<` and control
@@ -103,8 +104,8 @@ def calls_of(lines):
 
 
 def spans_of(parent, current):
-    """Returns the members of an event's call for its parent and its current span. The parent is named if
-    it is another span."""
+    """Returns the members of an event's call for its parent and its current span. The parent is
+    named if it is another span."""
     named = {"parent": parent or "root"} if parent != current else {}
     return {**named, **({"current": current} if current else {})}
 
@@ -218,8 +219,8 @@ def write(path, text):
 
 
 def calls_with_parents():
-    """Yields settings and calls with events whose parent isn't the current span. The last two events
-    come after the close of a span that they name."""
+    """Yields settings and calls with events whose parent isn't the current span. The last two
+    events come after the close of a span that they name."""
     yield SETTINGS
     for name, above in (("root", {}), ("first", {"current": 1}), ("second", {"current": 1})):
         yield {"call": "new", "name": name, **above}

@@ -5,7 +5,7 @@ the fault line and the output.
 usage: refuse.py PROGRAM SHIM INPUT..
        refuse.py PROGRAM SHIM
 
-SHIM is scripts/refuse.c. With inputs, PROGRAM is one that users run. It must then end with status 1
+SHIM is scripts/refuse.c. With inputs, PROGRAM is a program for users. It must then end with status 1
 and report the line and the cause. Its output must be that of the lines before the reported one:
 nothing is lost, and nothing of a refused call is drawn. (The program that reads may also lack the
 last row.) After a failed write the output may be truncated. It must not end behind what the

@@ -19,7 +19,7 @@ class Runs:
             print(fault, flush=True)
 
     def add_some(self, count, wrong):
-        """Counts runs, some of which didn't end as they must."""
+        """Counts runs. `wrong` of them didn't end as they must."""
         self.all += count
         self.right += count - wrong
 
