@@ -4,8 +4,8 @@
 //! [`TimeColumns`] and [`ThreadColumns`] begin each row with columns for its time and its thread.
 //! [`ShortValues`] cuts long arrays and objects, [`OneRow`] keeps each span in one row, and
 //! [`LineFields`] shows further members of a line's JSON object at its events. [`FailureLines`]
-//! leaves out the events below a level, except the lines of failed tests, and [`CountsAtLeast`] only
-//! the counts of tests.
+//! leaves out the events below a level, except the lines of failed tests, and [`CountsAtLeast`]
+//! only the counts of tests.
 #![tactic(auto)]
 
 mod column;

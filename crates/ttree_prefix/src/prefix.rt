@@ -61,8 +61,8 @@ impl<S> Prefixed<S> {
 }
 
 impl<S: Source> Prefixed<S> {
-    // Takes a line that has this prefix, and then this rest. It isn't inlined, since its `Scratch` of
-    // 16 KiB would be cleared for lines without a prefix too.
+    // Takes a line that has this prefix, and then this rest. It isn't inlined, since its `Scratch`
+    // of 16 KiB would be cleared for lines without a prefix too.
     #[inline(never)]
     fn take_rest(
         &mut self,
