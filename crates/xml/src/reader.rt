@@ -142,7 +142,7 @@ impl<'a> Reader<'a> {
         }
     }
 
-    /// Returns the next token as [`Reader::next`] does, but a `<` in content is a mere character. So
+    /// Returns the next token as [`Reader::next`] does, but a `<` in content is a character. So
     /// what surrounds a document can be read without taking it for markup.
     ///
     /// # Errors
