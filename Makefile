@@ -147,11 +147,10 @@ fuzz: need-python build ## runs random and damaged lines
 # the memory and the speed at the start and at the end.
 soak: need-python need-cc build bin/bench ## makes 10^8 calls
 	@$(CC) -O2 -o bin/soak scripts/soak.c
-	@python3 scripts/soak.py bin/tracing_tree bin/soak $(SOAKED)
-	@python3 scripts/soak_calls.py bin/bench $(SOAKED_CALLS)
+	@python3 scripts/soak.py bin/tracing_tree --lines bin/soak $(SOAKED)
+	@python3 scripts/soak.py bin/bench $(SOAKED_CALLS)
 
-# Outside the gate. Writes again the figures with which the gate compares the library's use of
-# memory.
+# Outside the gate. Writes the figures of memory again that the gate compares.
 counts: need-python need-cc build bin/bench bin/example_service ## writes the figures of memory again
 	@$(CC) -O1 -shared -fPIC -o bin/count.so scripts/count.c -ldl
 	@python3 scripts/counts.py bin/bench bin/tracing_tree bin/ttree bin/example_service bin/count.so --write

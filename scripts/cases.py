@@ -22,6 +22,8 @@ folder. The examples are in `examples/`. Lines before the first case are comment
 The last line is 'cases: N of M runs ended as they must'."""
 import codecs, dataclasses, glob, os, re, shlex, subprocess, sys, tempfile
 
+from runs import Runs
+
 TOP = os.path.dirname(os.path.dirname(os.path.abspath(__file__)))
 ESCAPED = " (escaped)"
 SECONDS = 300
@@ -90,18 +92,14 @@ def run_case(case, ttree):
 
 def main():
     ttree = os.path.abspath(sys.argv[1])
-    right, runs = 0, 0
+    runs = Runs("cases")
     for path in sys.argv[2:] or sorted(glob.glob(f"{TOP}/scripts/ttree/*.cases")):
         for case in read_cases(path):
-            runs += 1
             output, error, status = run_case(case, ttree)
-            if (output, error, status) == (case.output, case.error, case.status):
-                right += 1
-                continue
-            print(f"cases: {os.path.basename(path)}: {case.name}: FAILED: status {status}, and on standard error: {error[:200]}")
-            print(f"printed:\n{output[:2000].decode(errors='replace')}")
-    print(f"cases: {right} of {runs} runs ended as they must")
-    return 0 if right == runs and runs else 1
+            runs.add((output, error, status) == (case.output, case.error, case.status),
+                     f"cases: {os.path.basename(path)}: {case.name}: FAILED: status {status}, and on standard error: {error[:200]}\n"
+                     f"printed:\n{output[:2000].decode(errors='replace')}")
+    return runs.end()
 
 
 if __name__ == "__main__":

@@ -8,8 +8,8 @@ such as `IsRunOf`. The output has these parts:
 - Each definition that the contract depends on, once. First come those that it names, then those
   that these name, and so on. They are grouped by file, under the file's first comment. Also shown
   are the imports that the file renames, and the module of each name that several modules have.
-- The types that these definitions and the function's signature name, as they are declared. Of a
-  trait only the ghost members are shown.
+- The types that these definitions and the function's signature name, as their declarations. A trait
+  shows only its ghost members.
 - The other imported names, of these types and of the toolchain's library, with their modules.
 - 'N lines, M definitions'. The contract, comments, blank lines and types aren't counted.
 
@@ -320,7 +320,8 @@ def show(start, found, words):
 
 
 def check(definitions, functions):
-    """Compares the counts in docs/proofs/what-is-proved.md with the current ones. Returns how many differ."""
+    """Compares the counts in docs/proofs/what-is-proved.md with the current ones. Returns how many
+    differ."""
     rows = re.findall(r"(?m)`make claim NAME=(\S+)` \| (\d+) lines, (\d+) definitions", read(f"{TOP}/docs/proofs/what-is-proved.md"))
     differ = 0
     for name, lines, count in rows:

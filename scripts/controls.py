@@ -13,6 +13,8 @@ import subprocess
 import sys
 import tempfile
 
+from runs import Runs
+
 # ESC, BEL, DEL, NUL, the C1 control CSI, a carriage return and a backspace.
 BAD = "\x1b[31m\x07\x7f\x00\x9b\r\x08"
 # A control character in UTF-8.
@@ -99,7 +101,7 @@ def main():
     if len(sys.argv) != 2:
         sys.exit("usage: controls.py TTREE")
     program = str(pathlib.Path(sys.argv[1]).resolve())
-    right = runs = 0
+    runs = Runs("controls")
     with tempfile.TemporaryDirectory() as room:
         # The name of a file is in messages.
         path = str(pathlib.Path(room) / "a\x1b\x7f\x9b")
@@ -107,14 +109,10 @@ def main():
             pathlib.Path(path).write_bytes(text)
             colours = () if name == "lines" else ("--color", "never")
             for words in ((*colours, "--from", name, *some, *width) for some in options for width in WIDTHS):
-                runs += 1
                 fault = fault_of(program, words, path)
-                if fault:
-                    print(f"program ttree {' '.join(words)}: FAILED: {fault}")
-                right += not fault
-    print(f"controls: {right} of {runs} runs ended as they must")
-    sys.exit(right != runs)
+                runs.add(not fault, f"program ttree {' '.join(words)}: FAILED: {fault}")
+    return runs.end()
 
 
 if __name__ == "__main__":
-    main()
+    sys.exit(main())

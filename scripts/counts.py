@@ -11,11 +11,13 @@ Three numbers of each work must be exactly those of counts.txt: how often it all
 bytes it allocates, and how many bytes it holds at most at once. They include the work's calls and
 their results. No contract states these numbers. They are the same on each machine. They change with
 the code and the toolchain, and --write then writes them again. The last line is
-'N of M runs ended as they must'.
+'counts: N of M runs ended as they must'.
 
 usage: counts.py BENCH CLI TTREE SERVICE COUNTER [--write]
 """
 import collections, json, os, re, subprocess, sys, tempfile
+
+from runs import Runs
 
 FIGURES = os.path.join(os.path.dirname(os.path.abspath(__file__)), "counts.txt")
 PROGRAMS = ("bench", "cli", "ttree", "service")
@@ -134,16 +136,13 @@ def main():
     found = {name: counted(programs, counter, work) for name, work in works().items()}
     if sys.argv[6:] == ["--write"]:
         write(found)
-    kept, wrong = written(), 0
+    kept, runs = written(), Runs("counts")
     for (work, rounds), numbers in found.items():
         is_right = numbers is not None and numbers == kept.get((work, rounds))
         shown = "no figures" if numbers is None else "{:,} requests, {:,} bytes, at most {:,} at once".format(*numbers)
         print(f"counts: {work}, {rounds} rounds: {shown}", flush=True)
-        if not is_right:
-            print(f"program counts on {work} {rounds}: FAILED: {numbers} and not {kept.get((work, rounds))}")
-            wrong += 1
-    print(f"{len(found) - wrong} of {len(found)} runs ended as they must")
-    return 1 if wrong else 0
+        runs.add(is_right, f"program counts on {work} {rounds}: FAILED: {numbers} and not {kept.get((work, rounds))}")
+    return runs.end()
 
 
 if __name__ == "__main__":

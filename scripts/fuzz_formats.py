@@ -18,6 +18,8 @@ import subprocess
 import sys
 import tempfile
 
+from runs import Runs
+
 TOP = pathlib.Path(__file__).resolve().parent.parent
 # The number of inputs in a run.
 SHARE = 40
@@ -87,7 +89,7 @@ def main():
     examples = [(it.read_bytes(), format_of(it.name)) for it in sorted((TOP / "examples").iterdir()) if format_of(it.name)]
     # The first lines of a long example are enough.
     examples = [(text[:20000], name) for text, name in examples]
-    passed = runs = 0
+    runs = Runs("fuzz formats")
     for number in range(0, asked.inputs, SHARE):
         text, name = examples[number // SHARE % len(examples)]
         with tempfile.TemporaryDirectory(prefix="fuzz-") as folder:
@@ -96,15 +98,12 @@ def main():
                 pathlib.Path(file).write_bytes(changed(text, chance))
             named = [f"--from={name}", "--color=never"]
             for words in (named, [], [*named, *filter(None, [OPTIONS.get(name)])]):
-                runs += 1
                 fault = fault_of(program, words, files)
-                passed += fault is None
+                kept = TOP / "bin" / "fuzz" / f"formats-{asked.seed}-{number}"
                 if fault:
-                    kept = TOP / "bin" / "fuzz" / f"formats-{asked.seed}-{number}"
                     shutil.copytree(folder, kept, dirs_exist_ok=True)
-                    print(f"program ttree {' '.join(words)} on {kept.relative_to(TOP)}: FAILED: {fault}", flush=True)
-    print(f"fuzz formats: {passed} of {runs} runs ended as they must")
-    return 0 if passed == runs else 1
+                runs.add(not fault, f"program ttree {' '.join(words)} on {kept.relative_to(TOP)}: FAILED: {fault}")
+    return runs.end()
 
 
 if __name__ == "__main__":

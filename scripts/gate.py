@@ -16,6 +16,7 @@ import argparse, concurrent.futures, glob, os, re, shutil, subprocess, sys, temp
 
 import edits as edit_trials
 import kit as kits
+from runs import ended_in, passed_in
 
 TOP = edit_trials.TOP
 START = time.time()
@@ -134,8 +135,7 @@ class Gate:
             return self.count(f"runs by {script}", 0, ["programs not built"], start)
         ran = subprocess.run([f"{TOP}/{script}", *built, *more], stdin=subprocess.DEVNULL, stdout=subprocess.PIPE, text=True)
         print(ran.stdout, end="", flush=True)
-        found = re.search(r"(\d+) of (\d+) (?:runs ended as they must|events are under the spans of their lines)", ran.stdout)
-        passed, runs = (int(found[1]), int(found[2])) if found else (0, 1)
+        passed, runs = ended_in(ran.stdout) or (0, 1)
         failed = re.findall(r"(?m)^(program .*?): FAILED", ran.stdout) or [script] * (passed < runs or ran.returncode != 0)
         return self.count(f"runs by {script}", passed, failed, start)
 
@@ -173,7 +173,7 @@ class Gate:
         counted = ("bench", "tracing_tree_cli", "ttree", "example_service")
         self.programs("scripts/counts.py", *counted, more=[counter])
         self.programs("scripts/steps.py", "bench", more=[stepper])
-        self.programs("scripts/refuse_calls.py", "check_out_of_memory", more=[shim])
+        self.programs("scripts/refuse.py", "check_out_of_memory", more=[shim])
         data = f"{TOP}/crates/test_cases/data"
         lines = [f"{TOP}/examples/first.jsonl", f"{data}/drawing/two_lines_in_close.in", f"{data}/drawing/no_lines_two_lines.in"]
         self.programs("scripts/refuse.py", "tracing_tree_cli", more=[shim, *lines])
@@ -193,9 +193,9 @@ class Gate:
             how = {"cwd": self.room, "stdin": subprocess.DEVNULL, "stdout": subprocess.PIPE, "stderr": subprocess.STDOUT, "text": True}
             said += subprocess.run(words, errors="replace", **how).stdout
         print(said, end="", flush=True)
-        found = re.search(r"bindings: (\d+) passed, (\d+) failed", said)
-        failed = re.findall(r"(?m)^bindings: FAILED: (.*)", said) or ["library for C"] * (not found or found[2] != "0")
-        return self.count("library for C", int(found[1]) if found else 0, failed, start)
+        passed, wrong = passed_in(said, "bindings") or (0, 1)
+        failed = re.findall(r"(?m)^bindings: FAILED: (.*)", said) or ["library for C"] * (wrong > 0)
+        return self.count("library for C", passed, failed, start)
 
 
 def main():

@@ -9,11 +9,12 @@ failed."""
 import functools, os, re, shlex, shutil, subprocess, sys, tarfile, tempfile, time
 
 import completions
+from runs import Runs
 
 TOP = os.path.dirname(os.path.dirname(os.path.abspath(__file__)))
 NAMES = ("tracing_tree", "tracing_tree_read", "ttree")
 SECTIONS = ["NAME", "SYNOPSIS", "DESCRIPTION", "EXIT STATUS", "EXAMPLES", "SEE ALSO"]
-RUNS = {"passed": 0, "all": 0}
+RUNS = Runs("install")
 # Where things are installed: a prefix with a space, and the folder of the docs below it.
 PREFIX = "/opt/my tools"
 DOCS = "share/doc/tracing_tree"
@@ -23,10 +24,7 @@ TEXTS = ("README.md", "CHANGELOG.md", "CONTRIBUTING.md", "LICENSE-APACHE", "LICE
 
 def check(name, is_right, said=""):
     """Counts a run, and names it if it failed."""
-    RUNS["all"] += 1
-    RUNS["passed"] += bool(is_right)
-    if not is_right:
-        print(f"install {name}: FAILED: {str(said)[:600]}")
+    RUNS.add(is_right, f"install {name}: FAILED: {str(said)[:600]}")
 
 
 def equal(name, found, wanted):
@@ -539,8 +537,7 @@ def main():
         for name in NAMES[1:]:
             check_completions(name, programs[name])
         check_install(room)
-    print(f"install: {RUNS['passed']} of {RUNS['all']} runs ended as they must")
-    return RUNS["passed"] < RUNS["all"]
+    return RUNS.end()
 
 
 if __name__ == "__main__":

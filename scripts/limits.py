@@ -17,6 +17,7 @@ import fcntl, os, re, resource, shutil, signal, subprocess, sys, tempfile, threa
 
 import limit_inputs
 from limit_inputs import Drawing, Lines, Told
+from runs import Runs
 
 SECONDS = 120
 KIB = 1024
@@ -40,14 +41,11 @@ class Limits:
 
     def __init__(self, programs, room):
         self.programs, self.room = programs, room
-        self.runs, self.right, self.words = 0, 0, {}
+        self.runs, self.words = Runs("limits"), {}
 
     def count(self, name, is_right, ended):
-        self.runs += 1
-        self.right += bool(is_right)
-        if not is_right:
-            out, told, status = ended
-            print(f"limits: FAILED: {name}: status {status}, {len(out)} bytes out, standard error {told[:200]!r}", flush=True)
+        out, told, status = ended
+        self.runs.add(is_right, f"limits: FAILED: {name}: status {status}, {len(out)} bytes out, standard error {told[:200]!r}")
 
     def run(self, given, limit=None, out=subprocess.PIPE, words=None, **how):
         """Runs an input's program, or the command `words`. `limit` is called in the new process
@@ -78,8 +76,8 @@ def at_most(kind, count):
 
 
 def little_memory(limits, inputs):
-    """Limits the address space. The program starts under the first limit, and not under a smaller one. With
-    the next ones it runs out of memory at several places."""
+    """Limits the address space. The program starts under the first limit, and not under a smaller
+    one. With the next ones it runs out of memory at several places."""
     for given in inputs:
         name = f"little memory, program {given.program}"
         empty = Lines("settings alone", [b"{}"]) if given.program == 0 else Drawing("nothing", b"")
@@ -288,8 +286,7 @@ def main():
                 limit_inputs.crowd(20000), limit_inputs.chain(1000), limit_inputs.long_line(10**7), limit_inputs.recorded(30000),
                 limit_inputs.deep_drawing(1500), Drawing("a long row", b"x" * 10**7 + b"\ny\n"),
                 Told("a long output", limit_inputs.long_output(10**7), ttree)])
-        print(f"limits: {limits.right} of {limits.runs} runs ended as they must")
-        return 0 if limits.right == limits.runs else 1
+        return limits.runs.end()
 
 
 if __name__ == "__main__":

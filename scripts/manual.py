@@ -17,6 +17,8 @@ import subprocess
 import sys
 import tempfile
 
+from runs import Runs
+
 TOP = pathlib.Path(__file__).resolve().parent.parent
 NAMES = ("ttree", "tracing_tree", "tracing_tree_read")
 BLOCK = re.compile(r"(?ms)^```console\n(.*?)^```$")
@@ -60,53 +62,42 @@ def lay_out(folder, programs):
         os.symlink(os.path.abspath(program), f"{folder}/bin/{name}")
 
 
-def run_page(path, folder, is_written):
-    """Runs a page's commands and checks its links. Returns how many of both are right, and how many
-    there are."""
-    text, passed, runs = path.read_text(encoding="utf-8"), 0, 0
+def run_page(path, folder, is_written, runs):
+    """Runs a page's commands and checks its links."""
+    text = path.read_text(encoding="utf-8")
 
     def run_block(block):
-        nonlocal passed, runs
         made = ""
         for command, wanted in steps_of(block[1]):
-            found, runs = printed(command, folder), runs + 1
+            found = printed(command, folder)
             made += f"$ {command}\n{found}"
-            if found == wanted:
-                passed += 1
-            elif not is_written:
-                print(f"manual: {path.relative_to(TOP)}: {command}: FAILED:\nwanted:\n{wanted}printed:\n{found}")
+            fault = f"manual: {path.relative_to(TOP)}: {command}: FAILED:\nwanted:\n{wanted}printed:\n{found}"
+            runs.add(found == wanted, "" if is_written else fault)
         return f"```console\n{made}```"
 
     filled = BLOCK.sub(run_block, text)
     if is_written:
         path.write_text(filled, encoding="utf-8")
-    found = check_links(path)
-    return passed + found[0], runs + found[1]
+    check_links(path, runs)
 
 
-def check_links(path):
-    """Returns how many of a page's links lead to a file, and how many there are."""
-    links = LINK.findall(path.read_text(encoding="utf-8"))
-    lost = [it for it in links if not (path.parent / it).exists()]
-    for it in lost:
-        print(f"manual: {path.relative_to(TOP)}: {it}: FAILED: there is no such file")
-    return len(links) - len(lost), len(links)
+def check_links(path, runs):
+    """Checks that each of a page's links leads to a file."""
+    for it in LINK.findall(path.read_text(encoding="utf-8")):
+        runs.add((path.parent / it).exists(), f"manual: {path.relative_to(TOP)}: {it}: FAILED: there is no such file")
 
 
 def main():
     is_written = "--write" in sys.argv[1:]
     programs = [it for it in sys.argv[1:] if it != "--write"]
-    passed, runs = 0, 0
+    runs = Runs("manual")
     with tempfile.TemporaryDirectory(prefix="manual-") as folder:
         lay_out(folder, programs)
         for path in sorted((TOP / "docs" / "manual").glob("*.md")):
-            found = run_page(path, folder, is_written)
-            passed, runs = passed + found[0], runs + found[1]
+            run_page(path, folder, is_written, runs)
     for path in OTHER_PAGES:
-        found = check_links(path)
-        passed, runs = passed + found[0], runs + found[1]
-    print(f"manual: {passed} of {runs} runs ended as they must")
-    return 0 if passed == runs and runs else 1
+        check_links(path, runs)
+    return runs.end()
 
 
 if __name__ == "__main__":

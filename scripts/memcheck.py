@@ -12,6 +12,8 @@ with 'memcheck: N of M runs ended as they must'.
 """
 import argparse, glob, os, re, shutil, subprocess, sys, tempfile, time
 
+from runs import Runs
+
 TOP = os.path.dirname(os.path.dirname(os.path.abspath(__file__)))
 DATA = f"{TOP}/crates/test_cases/data"
 LOST = "definite,indirect,possible"
@@ -28,7 +30,7 @@ def bytes_of(path):
 
 class Memcheck:
     def __init__(self, room):
-        self.room, self.runs, self.right, self.start = room, 0, 0, time.time()
+        self.room, self.runs, self.start = room, Runs("memcheck"), time.time()
 
     def run(self, words, source):
         """Runs a program with and without valgrind. Returns whether both ended alike and without an
@@ -46,20 +48,15 @@ class Memcheck:
 
     def count(self, name, words, source):
         is_right, said, kept = self.run(words, source)
-        self.runs += 1
-        self.right += is_right
-        if not is_right:
-            print(f"memcheck: FAILED: {name}: {' '.join(words)}\n{said[-3000:]}", flush=True)
+        self.runs.add(is_right, f"memcheck: FAILED: {name}: {' '.join(words)}\n{said[-3000:]}")
         return kept
 
     def compare(self, name, words, short, long):
         """Counts whether a short and a long input leave the same number of bytes at the end."""
         kept = [self.count(f"{name}, {it}", words, source) for it, source in (("short", short), ("long", long))]
-        self.runs += 1
-        self.right += kept[0] is not None and kept[0] == kept[1]
         print(f"memcheck: {name}: {len(short):,} bytes of input leave {kept[0]} bytes, {len(long):,} leave {kept[1]}", flush=True)
-        if kept[0] is None or kept[0] != kept[1]:
-            print(f"memcheck: FAILED: {name}: what is kept at the end grows with the input")
+        self.runs.add(kept[0] is not None and kept[0] == kept[1],
+                      f"memcheck: FAILED: {name}: what is kept at the end grows with the input")
 
 
 def calls(count):
@@ -94,7 +91,7 @@ def main():
         check = Memcheck(room)
         for path in gathered(asked):
             check.count(path.removeprefix(f"{DATA}/"), [asked.drawing_program], bytes_of(path))
-        print(f"memcheck: {check.right} of {check.runs} cases are right, {time.time() - check.start:.0f} s", flush=True)
+        print(f"memcheck: {check.runs.right} of {check.runs.all} cases are right, {time.time() - check.start:.0f} s", flush=True)
         for name in DRAWINGS:
             check.count(f"drawing of {name}", [asked.reading_program], bytes_of(f"{DATA}/{name}.out"))
         check.count("what is no row", [asked.reading_program, "--amount", "3"], bytes_of(f"{DATA}/first/tree.out") + b"\xff\n")
@@ -104,8 +101,7 @@ def main():
         check.compare("the program that draws", [asked.drawing_program], calls(20), calls(2000))
         check.compare("the program that reads", [asked.reading_program], b"\xe2\x94\x90a\n" * 20, b"\xe2\x94\x90a\n" * 2000)
         check.compare("ttree", [asked.ttree], tests, tests * 100)
-        print(f"memcheck: {check.right} of {check.runs} runs ended as they must, {time.time() - check.start:.0f} s")
-        return 0 if check.right == check.runs else 1
+        return check.runs.end(f", {time.time() - check.start:.0f} s")
 
 
 if __name__ == "__main__":

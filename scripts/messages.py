@@ -7,6 +7,8 @@ and similar tools are stubs there, and no stub may be called: a missing tool is 
 anything is proved or built. The last line is 'messages: N of M runs ended as they must'."""
 import os, shutil, subprocess, sys, tempfile
 
+from runs import Runs as Counted
+
 TOP = os.path.dirname(os.path.dirname(os.path.abspath(__file__)))
 COPIED = ("Makefile", "crates.txt", "scripts", "bindings", "misuse", "examples")
 # Tools that are taken from this machine, and those that are replaced by a stub.
@@ -118,16 +120,13 @@ def fault(room, missing, words, sentence):
 
 
 def main():
-    right = 0
+    runs = Counted("messages")
     with tempfile.TemporaryDirectory(prefix="messages-") as room:
         lay_out(room)
         for missing, words, sentence in RUNS:
             found = fault(room, missing, words, sentence)
-            right += not found
-            if found:
-                print(f"messages: {words} without {missing}: FAILED: {found}")
-    print(f"messages: {right} of {len(RUNS)} runs ended as they must")
-    return 0 if right == len(RUNS) else 1
+            runs.add(not found, f"messages: {words} without {missing}: FAILED: {found}")
+    return runs.end()
 
 
 if __name__ == "__main__":

@@ -1,6 +1,6 @@
 #!/usr/bin/env python3
-"""Computes what the program must write for an input. It was written only from docs/reference/formats.md and
-docs/proofs/definitions.md.
+"""Computes what the program must write for an input. It was written only from
+docs/reference/formats.md and docs/proofs/definitions.md.
 
 usage: model.py < INPUT      writes the drawing and the fault line, and exits with the status, as
                              the program does
@@ -8,7 +8,7 @@ usage: model.py < INPUT      writes the drawing and the fault line, and exits wi
                              below these folders
 
 The last line of a comparison is 'model: N of M cases agree'. The model is slow: each span keeps its
-path, and each text is built whole.
+path, and each output is built whole.
 """
 import collections, datetime, json, os, sys
 

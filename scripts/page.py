@@ -1,5 +1,6 @@
 #!/usr/bin/env python3
-"""Compares the pages and the JSON lines of ttree with docs/reference/pages.md: page.py TTREE DRAWING_PROGRAM
+"""Compares the pages and the JSON lines of ttree with docs/reference/pages.md: page.py TTREE
+DRAWING_PROGRAM
 
 For each input, the page's bytes before and after the data must be those of viewer/build.py. Each
 line of the data must be what viewer/pages.py writes for its values, without `<` and control
@@ -14,6 +15,8 @@ import pathlib
 import subprocess
 import sys
 import tempfile
+
+from runs import Runs
 
 TOP = pathlib.Path(__file__).resolve().parent.parent
 sys.path.insert(0, str(TOP / "viewer"))
@@ -101,8 +104,8 @@ def calls_of(lines):
 
 
 def spans_of(parent, current):
-    """Returns the members of an event's call for its parent and its current span. The parent is named if
-    it is another span."""
+    """Returns the members of an event's call for its parent and its current span. The parent is
+    named if it is another span."""
     named = {"parent": parent or "root"} if parent != current else {}
     return {**named, **({"current": current} if current else {})}
 
@@ -150,15 +153,13 @@ def leaves_as_rows(calls):
             yield {**call, "id": ids[call["id"]]}
 
 
-class Runs:
+class Pages(Runs):
     def __init__(self, ttree, tree, room):
-        self.ttree, self.tree, self.room, self.count, self.wrong = ttree, tree, pathlib.Path(room), 0, 0
+        super().__init__("program ttree's pages")
+        self.ttree, self.tree, self.room = ttree, tree, pathlib.Path(room)
 
     def check(self, name, is_right, what=""):
-        self.count += 1
-        if not is_right:
-            self.wrong += 1
-            print(f"program ttree's pages: {name}: FAILED {str(what)[:500]}")
+        self.add(is_right, f"{self.name}: {name}: FAILED {str(what)[:500]}")
 
     def try_input(self, name, path, *options):
         """Checks the page, the JSON lines and the calls of an input."""
@@ -218,8 +219,8 @@ def write(path, text):
 
 
 def calls_with_parents():
-    """Yields settings and calls with events whose parent isn't the current span. The last two events
-    come after the close of a span that they name."""
+    """Yields settings and calls with events whose parent isn't the current span. The last two
+    events come after the close of a span that they name."""
     yield SETTINGS
     for name, above in (("root", {}), ("first", {"current": 1}), ("second", {"current": 1})):
         yield {"call": "new", "name": name, **above}
@@ -293,11 +294,10 @@ def try_messages(runs):
 def main():
     args = sys.argv[1:]
     with tempfile.TemporaryDirectory() as room:
-        runs = Runs(*(str(pathlib.Path(it).resolve()) for it in args), room)
+        runs = Pages(*(str(pathlib.Path(it).resolve()) for it in args), room)
         try_all(runs)
         try_messages(runs)
-    print(f"program ttree's pages: {runs.count - runs.wrong} of {runs.count} runs ended as they must")
-    return 1 if runs.wrong else 0
+    return runs.end()
 
 
 if __name__ == "__main__":

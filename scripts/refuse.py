@@ -2,37 +2,46 @@
 """Makes each allocation, each read and each write of a program fail in turn, and checks the status,
 the fault line and the output.
 
-The program must then end with status 1 and report the line and the cause. Its output must be that
-of the lines before the reported one: nothing is lost, and nothing of a refused call is drawn. (The
-program that reads may also lack the last row.) After a failed write the output may be truncated. It
-must not end behind what the reported line draws. If the input has a fault, the program may then
-report that fault instead, with its status. The output of ttree only has to be a prefix of the whole
-output.
-
-After a failed read or write the run must end differently. After a failed allocation it may end as
-without a failure, since the program may do without that memory. The last line is
-'refuse: N of M runs ended as they must'.
-
 usage: refuse.py PROGRAM SHIM INPUT..
-"""
+       refuse.py PROGRAM SHIM
+
+SHIM is scripts/refuse.c. With inputs, PROGRAM is a program for users. It must then end with status 1
+and report the line and the cause. Its output must be that of the lines before the reported one:
+nothing is lost, and nothing of a refused call is drawn. (The program that reads may also lack the
+last row.) After a failed write the output may be truncated. It must not end behind what the
+reported line draws. If the input has a fault, the program may then report that fault instead, with
+its status. The output of ttree only has to be a prefix of the whole output. After a failed read or
+write the run must end differently. After a failed allocation it may end as without a failure, since
+the program may do without that memory.
+
+Without inputs, PROGRAM is crates/check_out_of_memory, which calls the library. It makes what a work
+needs, prints `begin NAME`, does the work, and prints how many allocations failed. After a failure
+the program itself checks what was left and tries again. It ends with an error if the result is
+wrong. At its end it must hold no more blocks of memory than without a failure. Each run with a
+failed allocation counts.
+
+The last line is 'refuse: N of M runs ended as they must'."""
 import os
 import re
 import subprocess
 import sys
 import tempfile
 
+from runs import Runs
+
 WORDS = {"malloc": "memory", "read": "read", "write": "writer"}
 # What ttree reports instead.
 SENTENCES = {"malloc": "out of memory", "read": "the input can't be read", "write": "the output can't be written"}
+# A work of calls ends after this number of runs in a row without a failed allocation.
+QUIET = 3
 
 
 class Refusals:
     """Runs a program with failing calls, on one input after another."""
 
-    def __init__(self, program, shim, room):
-        self.program, self.shim, self.told = program, shim, f"{room}/told"
+    def __init__(self, program, shim, room, runs):
+        self.program, self.shim, self.told, self.runs = program, shim, f"{room}/told", runs
         self.kind = next((it for it in ("ttree", "read") if os.path.basename(program).endswith(it)), "draw")
-        self.runs = self.wrong = 0
 
     def run(self, lines, kind=None, at=0):
         """Runs the program so that call number `at` of this kind fails. Returns the status, the
@@ -99,18 +108,67 @@ class Refusals:
             refused, wrong = self.refuse_all(path, lines, kind)
             is_silent = kind == "write" and not self.run(lines)[0][1]
             print(f"{path}: {refused} refused by {kind}, {wrong} went wrong", flush=True)
-            self.runs += max(refused, not is_silent)
-            self.wrong += max(wrong, refused == 0 and not is_silent)
+            self.runs.add_some(max(refused, not is_silent), max(wrong, refused == 0 and not is_silent))
+
+
+def run_work(program, shim, work, at=0):
+    """Runs a work so that allocation number `at` (from 1) fails. Returns its status, its output,
+    its standard error, and the number of blocks that it holds at its end."""
+    with tempfile.NamedTemporaryFile("r", prefix="held-") as held:
+        env = dict(os.environ, LD_PRELOAD=shim, REFUSE_KIND="malloc", REFUSE_AT=str(at), REFUSE_FROM="begin ", REFUSE_HELD=held.name)
+        done = subprocess.run([program, work], stdin=subprocess.DEVNULL, capture_output=True, env=env, timeout=60, check=False)
+        return done.returncode, done.stdout.decode(), done.stderr.decode(), int(held.read() or 0)
+
+
+def works_of(program):
+    """Returns the names of all works that end well without a failed allocation."""
+    done = subprocess.run([program], stdin=subprocess.DEVNULL, capture_output=True, timeout=60, check=True)
+    return re.findall(r"(?m)^end (\w+): 0 refused$", done.stdout.decode())
+
+
+def refuse_work(program, shim, work):
+    """Makes each allocation of a work fail in turn. Returns how many failed, and the errors."""
+    refused, wrong, quiet, at = 0, [], 0, 0
+    kept = run_work(program, shim, work)[3]
+    while quiet < QUIET:
+        at += 1
+        status, said, told, held = run_work(program, shim, work, at)
+        ended = re.fullmatch(rf"begin {work}\nend {work}: (\d+) refused\n", said)
+        if status or not ended:
+            wrong.append(f"{work}: request {at}: status {status}, {said!r}, {told!r}")
+        elif held > kept:
+            wrong.append(f"{work}: request {at}: {held} blocks are held at the end, and {kept} without a refusal")
+        elif ended[1] == "0":
+            quiet += 1
+            continue
+        refused, quiet = refused + 1, 0
+    return refused, wrong
+
+
+def refuse_works(program, shim, runs):
+    """Makes each allocation of each work fail in turn."""
+    failed = []
+    for work in works_of(program):
+        refused, wrong = refuse_work(program, shim, work)
+        print(f"{work}: {refused} requests refused, {len(wrong)} went wrong", flush=True)
+        found = wrong if refused else [f"{work}: nothing was refused"]
+        runs.add_some(max(refused, 1), len(found))
+        failed += found
+    for it in failed:
+        print(f"program refusals, {it}: FAILED")
 
 
 def main():
-    program, shim = os.path.abspath(sys.argv[1]), os.path.abspath(sys.argv[2])
+    if len(sys.argv) < 3:
+        sys.exit(__doc__)
+    program, shim, runs = os.path.abspath(sys.argv[1]), os.path.abspath(sys.argv[2]), Runs("refuse")
     with tempfile.TemporaryDirectory(prefix="refuse-") as room:
-        refusals = Refusals(program, shim, room)
+        refusals = Refusals(program, shim, room, runs)
         for path in sys.argv[3:]:
             refusals.take(path)
-    print(f"refuse: {refusals.runs - refusals.wrong} of {refusals.runs} runs ended as they must")
-    return 1 if refusals.wrong else 0
+    if not sys.argv[3:]:
+        refuse_works(program, shim, runs)
+    return runs.end()
 
 
 if __name__ == "__main__":

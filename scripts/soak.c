@@ -1,7 +1,7 @@
 /* Writes lines for the program: settings, then calls in ROUNDS rounds: soak SETTINGS ROUNDS
  *
- * Each round opens and closes the same spans, so each round draws the same bytes. Only the ids rise.
- * A round has 100,000 roots at once, 20,000 children of one span, many chains in two branches,
+ * Each round opens and closes the same spans, so each round draws the same bytes. Only the ids
+ * rise. A round has 100,000 roots at once, 20,000 children of one span, many chains in two branches,
  * fields that grow, and long strings. Prints the number of calls in a round on standard error. */
 #define _GNU_SOURCE
 #include <stdio.h>

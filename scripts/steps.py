@@ -7,11 +7,13 @@ places a look-up reads. If no gap between a span and the newest span was closed,
 calls among 100,000 live spans take as many instructions as among ten. If gaps were closed evenly,
 it reads about six places, however many spans there are. A binary search would exceed the bounds,
 and a linear search even more. If the processor doesn't stop after each instruction, nothing is
-compared, and a line says so. The last line is 'N of M runs ended as they must'.
+compared, and a line says so. The last line is 'steps: N of M runs ended as they must'.
 
 usage: steps.py PROGRAM COUNTER
 """
 import os, re, subprocess, sys
+
+from runs import Runs
 
 ROUNDS = 64
 # A work among few spans, the same work among many, and the largest allowed ratio of instructions.
@@ -34,19 +36,16 @@ def counted(program, counter, work):
 
 def main():
     program, counter = os.path.abspath(sys.argv[1]), os.path.abspath(sys.argv[2])
-    runs = wrong = 0
+    runs = Runs("steps")
     for few, many, most in PAIRS:
         among_few, among_many = (counted(program, counter, it) for it in (few, many))
         if 0 in (among_few, among_many):
             print("steps: left out: this processor doesn't stop after each instruction")
             continue
-        runs += 1
         print(f"steps: {ROUNDS} calls: {few} {among_few} instructions, {many} {among_many}", flush=True)
-        if None in (among_few, among_many) or among_many > most * among_few:
-            print(f"program steps on {many}: FAILED: {among_many} instructions, and {among_few} among few spans")
-            wrong += 1
-    print(f"{runs - wrong} of {runs} runs ended as they must")
-    return 1 if wrong else 0
+        runs.add(None not in (among_few, among_many) and among_many <= most * among_few,
+                 f"program steps on {many}: FAILED: {among_many} instructions, and {among_few} among few spans")
+    return runs.end(may_be_empty=True)
 
 
 if __name__ == "__main__":

@@ -27,6 +27,7 @@ library. The last line is 'N passed, M failed'."""
 import concurrent.futures, glob, os, re, shutil, subprocess, sys, time
 
 import kit as kits
+from runs import ended_in, passed_in
 
 TOP = os.path.dirname(os.path.dirname(os.path.abspath(__file__)))
 START = time.time()
@@ -120,10 +121,10 @@ def run_programs(*words):
     """Runs a script that runs programs. Returns how many of its runs passed and how many failed."""
     status, said = ran(*(PROGRAMS.get(it, it) for it in words))
     print(said, end="", flush=True)
-    found = re.search(r"(\d+) of (\d+) (?:runs ended as they must|cases agree|events are under the spans of their lines)", said)
+    found = ended_in(said)
     if not found:
         return 0, 1
-    passed, runs = int(found[1]), int(found[2])
+    passed, runs = found
     ended(f"runs by {words[0]}: {passed} passed, {runs - passed} failed")
     return passed, max(runs - passed, 1 if status else 0)
 
@@ -144,8 +145,7 @@ def run_bindings():
     if not status:
         status, said = ran("env", f"TRACING_TREE={PROGRAMS['tracing_tree_cli']}", "bindings/test.sh")
     print(said, end="", flush=True)
-    found = re.search(r"(?m)^bindings: (\d+) passed, (\d+) failed$", said)
-    passed, failed = (int(found[1]), int(found[2])) if found else (0, 1)
+    passed, failed = passed_in(said, "bindings") or (0, 1)
     ended(f"the library for C: {passed} passed, {failed} failed")
     return passed, max(failed, 1 if status else 0)
 
@@ -156,8 +156,7 @@ def check_docs(what, *words):
     _, said = ran(sys.executable, *words)
     print(said, end="", flush=True)
     ended(what)
-    found = re.search(r"(?m)^\w+: (\d+) passed, (\d+) failed$", said)
-    return (int(found[1]), int(found[2])) if found else (0, 1)
+    return passed_in(said) or (0, 1)
 
 
 def main():

@@ -94,10 +94,10 @@ def literal(text):
 
 
 def module():
-    return f'''//! The fixed texts of a page. viewer/build.py writes this file.
+    return f'''//! The fixed strings of a page. viewer/build.py writes this file.
 
-/// What comes before the data of a page: the style and the viewer, up to the start of the element that
-/// has the data.
+/// What comes before the data of a page: the style and the viewer, up to the start of the element
+/// that has the data.
 pub const HEAD: &str =
     {literal(head())};
 

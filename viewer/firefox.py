@@ -1,5 +1,5 @@
-"""A headless Firefox, driven over its Marionette protocol with only the standard library. It has the
-methods of `Browser`, so that tests can take either."""
+"""A headless Firefox, driven over its Marionette protocol with only the standard library. It has
+the methods of `Browser`, so that tests can take either."""
 import base64, json, os, shutil, socket, subprocess, tempfile, time
 from browser import Browser
 

@@ -76,8 +76,8 @@ def service(take, calls, failures=7):
 
 
 def parts_of(title):
-    """Starts a page that is sent in parts: a span with a span and five events in it. Returns the list
-    of the parts, a function that takes a call, and another that ends a part."""
+    """Starts a page that is sent in parts: a span with a span and five events in it. Returns the
+    list of the parts, a function that takes a call, and another that ends a part."""
     parts, out = [], io.BytesIO()
     take = pages.Calls(out.write).take
 

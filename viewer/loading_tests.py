@@ -165,7 +165,8 @@ class LoadingTests:
         server.end()
 
     def loading_search(self):
-        """Checks a search while a page loads: its match stays, and those of later lines are added."""
+        """Checks a search while a page loads: its match stays, and those of later lines are
+        added."""
         parts, write, cut = parts_of("search")
         jobs(write, range(60))
         cut()

@@ -74,7 +74,8 @@ class Tests(LoadingTests):
         return self.run("location.hash")
 
     def follow(self, fragment):
-        """Follows a link within the page. The browser may be slow to say that the address changed."""
+        """Follows a link within the page. The browser may be slow to say that the address
+        changed."""
         self.run(f"new Promise(done => {{ if (location.hash === '{fragment}') return done(); addEventListener('hashchange', () => done(), {{ once: true }}); location.hash = '{fragment}'; }})")
         self.settle()
 
@@ -173,8 +174,8 @@ class Tests(LoadingTests):
             self.end_page(name)
 
     def summary(self, path):
-        """Returns the numbers of spans, events, errors and warnings of `ttree --summary`, if the format
-        has one."""
+        """Returns the numbers of spans, events, errors and warnings of `ttree --summary`, if the
+        format has one."""
         made = subprocess.run([self.ttree, "--summary", path], stdout=subprocess.PIPE, stderr=subprocess.DEVNULL, check=False)
         counts = re.findall(r"^spans (\d+), events (\d+), errors (\d+), warnings (\d+)", made.stdout.decode(), re.M)
         return [int(it) for it in counts[-1]] if counts else None
@@ -325,8 +326,8 @@ class Tests(LoadingTests):
         self.end_page("keys")
 
     def contrast(self):
-        """Checks that strings can be read: their contrast is at least 4.5, also where the background of a
-        row changes."""
+        """Checks that strings can be read: their contrast is at least 4.5, also where the
+        background of a row changes."""
         calls = [{"call": "new", "name": "root", "mono": 0, "fields": [["port", "80"]]}, *[{"call": "event", "level": level, "fields": [["message", f"note {level}"], ["key", "value"]], "current": 1, "mono": at} for at, level in enumerate(pages.LEVELS)],
             {"call": "new", "name": "inner", "current": 1, "mono": 5, "thread": 2}, {"call": "close", "id": 2, "mono": 70}, {"call": "close", "id": 1, "mono": 99}]
         weakest = """(() => {

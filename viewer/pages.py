@@ -1,5 +1,5 @@
-"""Writes pages as docs/reference/pages.md says, from calls that are dictionaries. The tests compare with it, so
-it shares no code with the program."""
+"""Writes pages as docs/reference/pages.md says, from calls that are dictionaries. The tests compare
+with it, so it shares no code with the program."""
 
 import json
 import re

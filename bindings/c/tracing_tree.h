@@ -309,7 +309,7 @@ static inline uint32_t tt_refuse_null(tt_tree *tree) {
  * 0. */
 
 /* Returns the id of the current span: the innermost entered span that is live. Returns 0 if there
- * is no such span, and if the tree is missing. The output stays. */
+ * isn't one, and if the tree is missing. The output stays. */
 static inline uint64_t tt_current(tt_tree *tree) { return tree ? tt_raw_current(tree) : 0; }
 
 /* Returns the context of a call whose context is NULL: in the current span, by a thread without a
@@ -494,9 +494,9 @@ static inline size_t tt_text(tt_tree *tree, uint8_t *room, size_t size) {
 }
 
 /* Writes the output of the last call to a stream, as `fwrite` does: the stream may hold it back.
- * Writes nothing if there is no output. Returns `TT_OK`, `TT_NULL`, `TT_STREAM` if the stream failed,
- * which may have written a prefix, or `TT_NO_MEMORY` if an output of more than 1024 bytes can't be
- * copied, of which nothing is written. The output stays until the next call. */
+ * Writes nothing if the output is empty. Returns `TT_OK`, `TT_NULL`, `TT_STREAM` if the stream
+ * failed, which may have written a prefix, or `TT_NO_MEMORY` if an output of more than 1024 bytes
+ * can't be copied. Nothing is written then. The output stays until the next call. */
 static inline uint32_t tt_write(tt_tree *tree, FILE *out) {
   uint8_t room[1024];
   uint8_t *text = room;

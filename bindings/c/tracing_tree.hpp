@@ -10,9 +10,9 @@
  *     ├─ WARN slow, ms=271
  *     ┘
  *
- * A span is the current span of its thread from its constructor to its destructor. So the thread that
- * made it destroys it, before its tree. Threads may share a tree, and the stream is written to under
- * the tree's lock. The stream must not use the tree. */
+ * A span is the current span of its thread from its constructor to its destructor. So the thread
+ * that made it destroys it, before its tree. Threads may share a tree, and the stream is written to
+ * under the tree's lock. The stream must not use the tree. */
 #ifndef TRACING_TREE_HPP
 #define TRACING_TREE_HPP
 

@@ -113,7 +113,7 @@ def text_of(library, tree):
 
 
 def draw(library, lines):
-    """Returns the text of a run, and the line and the reason if it ended early."""
+    """Returns the output of a run, and the line and the reason if it ended early."""
     tree = Tree()
     settings = settings_of(json.loads(lines[0]))
     status = library.tt_raw_new(byref(tree), byref(settings))

@@ -132,8 +132,8 @@ _library = _load()
 
 
 def _shown(value):
-    """Returns a field's value in the form that is drawn: a string unchanged, anything else as `repr` returns
-    it."""
+    """Returns a field's value in the form that is drawn: a string unchanged, anything else as
+    `repr` returns it."""
     return value if isinstance(value, str) else repr(value)
 
 

@@ -12,7 +12,7 @@ use tracing_tree::registry::{Data, LookupSpan};
 // More than any of the works writes.
 const ROOM: usize = 4096;
 
-/// An output that takes text while its capacity lasts. The capacity is allocated beforehand.
+/// An output that takes bytes while its capacity lasts. The capacity is allocated beforehand.
 #[derive(Drop)]
 pub struct Board {
     bytes: Vec<u8>,

@@ -1,8 +1,8 @@
-//! Does a work in which any one allocation may fail. A failure must leave everything unchanged, and
+//! Does a work while any one allocation may fail. A failure must leave everything unchanged, and
 //! a second attempt must be answered as with enough memory.
 //!
 //! The argument is the name of a work. Without one, all are done. Everything that a work needs is
-//! made first. Then a line `begin NAME` is printed, and from there on `scripts/refuse_calls.py`
+//! made first. Then a line `begin NAME` is printed, and from there on `scripts/refuse.py`
 //! lets one allocation after another fail. The last line of a work says how many allocations
 //! failed. A work with another result ends the program with an error.
 #![tactic(auto)]

@@ -156,7 +156,7 @@ fn is_beginning(lines: &[u8], text: &[u8]) -> bool {
     text.starts_with(lines) && lines.last().is_none_or(|last| *last == b'\n')
 }
 
-/// Draws the calls of lines. If an allocation fails, the text must be that of the lines before.
+/// Draws the calls of lines. If an allocation fails, the output must be that of the lines before.
 /// Returns how many failed.
 pub fn run_by_lines(alloc: Global, board: Board, again: Board) -> anyhow::Result<u32>
     requires first { board.faults ≡ 0 }

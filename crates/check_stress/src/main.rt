@@ -2,7 +2,7 @@
 //! results.
 //!
 //! The arguments are the number of rounds, and a seed. The seed determines what the threads do,
-//! except for the order in which they get the lock. The first round with another result ends the
+//! except for their order at the lock. The first round with another result ends the
 //! run, with its number.
 #![tactic(auto)]
 

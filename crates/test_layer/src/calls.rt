@@ -1,4 +1,4 @@
-//! Calls on a layered, with their answers and their text.
+//! Calls on a layered, with their answers and their output.
 
 use crate::checks::{answers, draws};
 use std::alloc::{AllocError, Global};

@@ -89,7 +89,7 @@ fn registry(
     let parent = spans.new_span(root, here)?;
     let id = spans.new_span(child, here)?; // below `Parent::Of(parent)`
     spans.try_close(parent)?; // false: the child is live
-    spans.try_close(id)?; // true: both are gone
+    spans.try_close(id)?; // true: both are removed
     Ok(spans)
 }
 

@@ -1,4 +1,4 @@
-//! Large runs with enough memory: every call is accepted, and the whole text is what it must be.
+//! Large runs with enough memory: every call is accepted, and the whole drawing is right.
 
 use std::alloc::{AllocError, Global};
 use std::process::Abort;

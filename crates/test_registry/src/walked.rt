@@ -1,4 +1,4 @@
-//! A registry that lends its paths, compared with one that walks them: the same calls get the same
+//! A registry that lends its paths, beside a registry that walks them: the same calls get the same
 //! answers.
 
 use std::alloc::{AllocError, Global};

@@ -1,4 +1,4 @@
-//! Refusals: the draft is returned, and the history and the text are unchanged.
+//! Refusals: the draft is returned, and the history and the output are unchanged.
 
 ghost use Rattle.std.specs.Prelude.{◌≡◌};
 

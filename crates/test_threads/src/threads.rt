@@ -1,5 +1,5 @@
 //! Threads that share a layer: each call appears once in the history, and a layer of one thread
-//! that runs it writes the same text.
+//! that runs it writes the same output.
 
 ghost use Rattle.std.specs.Prelude.{◌≡◌};
 

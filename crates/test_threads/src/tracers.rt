@@ -1,5 +1,5 @@
 //! Threads with separate tracers over one layer: the rows of each thread are those of a thread
-//! alone.
+//! by itself.
 
 ghost use Rattle.std.specs.Prelude.{◌≡◌, [], None, false};
 

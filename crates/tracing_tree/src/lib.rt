@@ -11,7 +11,7 @@
 //!   [`tracer::StreamingCalls`] or [`tracer::SharedCalls`], its receiver over the layer.
 //! - [`HierarchicalLayer`] without a registry for a service that stores its spans itself, over any
 //!   [`registry::LookupSpan`].
-//! - [`run_lines`] for calls in lines of JSON, and [`rows::read_rows`] for the text of a drawing.
+//! - [`run_lines`] for calls in lines of JSON, and [`rows::read_rows`] for a drawing.
 //!
 //! [`format::Tape`] keeps the drawing in memory, and [`format::Wrap`] writes it to any
 //! `std::io::Write`.

@@ -59,7 +59,7 @@ pub enum Refusal {
     #[error("timer")]
     Timer,
 
-    /// The writer refused a write of this call's text.
+    /// The writer refused a write of this call's output.
     #[error("writer")]
     Writer,
 

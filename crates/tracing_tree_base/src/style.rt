@@ -11,10 +11,10 @@ use std::str::FromStr;
 pub use surface::ColorLevel;
 use thiserror::Error;
 
-/// A style of text on a terminal.
+/// A style of a string on a terminal.
 #[derive(Clone, Copy, Debug, PartialEq, Eq)]
 pub enum Style {
-    /// Unchanged text.
+    /// Unchanged.
     Plain,
     Dimmed,
     BoldGreen,
@@ -43,8 +43,8 @@ impl Style {
     }
 }
 
-/// Returns the text in a style, between the escape sequences that start and end it. If `ansi` is
-/// off, or the style is `Plain`, the text is unchanged. (docs/reference/formats.md, "Styles",
+/// Returns the string in a style, between the escape sequences that start and end it. If `ansi` is
+/// off, or the style is `Plain`, it is unchanged. (docs/reference/formats.md, "Styles",
 /// defines the styles.)
 ///
 /// # Errors
@@ -58,7 +58,7 @@ pub fn styled(alloc: Global, ansi: bool, style: Style, text: &str) -> Result<Str
     Ok(painted)
 }
 
-/// Appends the text in a style, like [`styled`].
+/// Appends the string in a style, like [`styled`].
 ///
 /// # Errors
 ///

@@ -213,7 +213,7 @@ pub extern "C" fn tt_raw_free(alloc: Global, tree: &mut Tree)
     drop(tree.take(alloc));
 }
 
-/// Copies the text of the last call to `room`, if it fits. Returns the length of the text in bytes,
+/// Copies the output of the last call to `room`, if it fits. Returns the output's length in bytes,
 /// or 0 if there isn't a tree.
 #[unsafe(no_mangle)]
 pub extern "C" fn tt_raw_text(alloc: Global, tree: &mut Tree, room: &mut [u8]) -> usize

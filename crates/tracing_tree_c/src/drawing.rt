@@ -13,7 +13,7 @@ use tracing_tree_layer::call::Reply;
 use tracing_tree_layer::layered::Layered;
 use tracing_tree_spans::registry::LookupSpan;
 
-/// A registry with a layer whose output holds the text of the last call, and the spans that are
+/// A registry with a layer whose output is that of the last call, and the spans that are
 /// entered.
 #[derive(Drop)]
 pub struct Drawing {

@@ -1,4 +1,4 @@
-//! An output that holds the text of one call, and lends it.
+//! An output that holds what one call drew, and lends it.
 
 ghost use Rattle.std.specs.Prelude.{◌≡◌, []};
 
@@ -7,7 +7,7 @@ use std::marker::Model;
 use std::mem;
 use tracing_tree_output::{Output, OutputFault};
 
-/// An output that holds the text of a call. If it is empty, it takes the layer's string without a
+/// An output that holds what a call drew. If it is empty, it takes the layer's string without a
 /// copy or an allocation.
 #[derive(Drop)]
 pub struct Lent {
@@ -35,14 +35,14 @@ impl Lent {
         }
     }
 
-    /// Returns the text.
+    /// Returns the bytes.
     pub fn bytes(&self) -> &[u8]
         ensures { result.now ≡ self.now.bytes }
     {
         self.text.as_bytes()
     }
 
-    /// Returns the output with the same capacity, without its text and faults.
+    /// Returns the output with the same capacity, without its bytes and faults.
     pub fn emptied(self) -> Lent
         ensures { result ≡ record { bytes = []; faults = 0 } }
     {

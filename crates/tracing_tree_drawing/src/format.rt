@@ -1,4 +1,4 @@
-//! The settings, and the drawing of a row: its texts, its frame and its width.
+//! The settings, and the drawing of a row: its strings, its frame and its width.
 
 ghost use Rattle.std.specs.Prelude.{◌≡◌, ◌++◌, OnOk, OnErr, string_bytes};
 ghost use Rattle.tracing_tree_drawing.specs.Format.Texts.{label};

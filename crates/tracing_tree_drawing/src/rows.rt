@@ -1,8 +1,8 @@
-//! Makes the rows of a drawing one by one, draws them, and parses them from the text of a drawing.
+//! Makes the rows of a drawing one by one, draws them, and parses them from a drawing.
 //!
 //! docs/reference/formats.md, 'Rows and their reader', says which rows exist, how they are drawn
-//! and how a line is read. If `read_rows` returns rows, drawing them yields the same text, and no
-//! other rows have that text.
+//! and how a line is read. If `read_rows` returns rows, drawing them yields the same bytes, and no
+//! other rows have that drawing.
 
 pub mod draw;
 pub mod paths;

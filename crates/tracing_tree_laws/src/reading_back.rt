@@ -1,4 +1,4 @@
-//! Runs whose events are read back only from their text.
+//! Runs whose events are read back only from their drawing.
 
 ghost use Rattle.std.specs.Prelude.{◌≡◌, [], IfSome, Option, length};
 ghost use Rattle.tracing_tree_base.specs.declared.context.Id.{Id};
@@ -14,7 +14,7 @@ use tracing_tree::rows::{EventPath, read_paths};
 use tracing_tree::time::FormatTime;
 use tracing_tree::{Call, Layered, Reply};
 
-/// The answers of a run, and the paths of its events as its text shows them.
+/// The answers of a run, and the paths of its events as its drawing shows them.
 #[derive(Drop)]
 pub struct EventsRead {
     /// The answer to each call, in order.
@@ -24,14 +24,14 @@ pub struct EventsRead {
     pub paths: Vec<EventPath>,
 }
 
-/// Makes the calls, and reads the events back from the text that they drew.
+/// Makes the calls, and reads the events back from what they drew.
 ///
 /// Suppose the layered value began empty, its rows are readable, `close_retrace` is on, and so is
-/// `span_retrace` or `deferred_spans`. Then the text shows for each accepted event in its current
+/// `span_retrace` or `deferred_spans`. Then the rows show for each accepted event in its current
 /// span the rows that open the spans on its path. This follows from the contracts of
 /// [`Layered::run`] and [`read_paths`].
 ///
-/// Returns `None` if the amount is below 2, memory runs out, the layer fails or its text can't be
+/// Returns `None` if the amount is below 2, memory runs out, the layer fails or its output can't be
 /// read.
 pub fn read_events<FT: FormatTime>(
     alloc: Global,

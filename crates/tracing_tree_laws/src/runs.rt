@@ -14,7 +14,7 @@ ghost use Rattle.tracing_tree_layer.specs.Layered.State.{opening_state};
 ghost use Rattle.tracing_tree_time.specs.Clock.{Timer};
 
 /// An accepted call extends any run that led to the state before it. With the call, the run leads
-/// to the state after it, with its rows and its reply, and the text grows by the drawing of its
+/// to the state after it, with its rows and its reply, and the output grows by the drawing of its
 /// rows.
 pub fn an_accepted_call_makes_runs_longer()
     ensures { (call : Call) (reply : Reply) (old new : Seen) → IsAnswered call (Ok reply) old new

@@ -12,7 +12,7 @@ use tracing_tree_time::FormatTime;
 /// shared layer, a counter, or an adapter of another receiver.
 ///
 /// Code that makes calls knows only this trait. It makes a call from its parts if it has them, so
-/// no whole [`Call`] is built: the strings of an event stay where they are.
+/// no whole [`Call`] is built: the strings of an event aren't copied.
 pub trait Calls {
     ghost use Rattle.std.specs.Prelude.{IfOk, Result, ◌≡◌};
     ghost use Rattle.tracing_tree_base.specs.declared.context.Refusal.{Refusal};

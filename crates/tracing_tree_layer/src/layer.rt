@@ -33,7 +33,7 @@ use tracing_tree_time::FormatTime;
 /// A layer that draws spans and events as a tree into a writer. (`HierarchicalLayer` of the Rust
 /// crate.)
 ///
-/// The text of a call is built whole and then written. After a fault of the timer or the writer,
+/// A call's output is built whole and then written. After a fault of the timer or the writer,
 /// the layer has failed. It refuses every further call until `recover`.
 ///
 /// A service that stores its spans itself calls only the layer. A `Layered` makes these calls for

@@ -23,10 +23,10 @@ use tracing_tree_output::Output;
 use tracing_tree_spans::registry::{Attributes, Event, LookupSpan, Parent, Record, Registry};
 use tracing_tree_time::FormatTime;
 
-/// A registry with a layer. An accepted call changes both, and writes its text.
+/// A registry with a layer. An accepted call changes both, and writes its output.
 ///
 /// After a refused call the spans, their marks and the last span are unchanged. After `Timer` and
-/// `Writer` the layer has also failed. After `Writer` a first part of the text may have been
+/// `Writer` the layer has also failed. After `Writer` a first part of the output may have been
 /// written.
 ///
 /// A root span that opens and closes. Its attributes and the contexts come from the caller:

@@ -13,7 +13,7 @@ use tracing_tree_drawing::format::push_event_field;
 use tracing_tree_spans::registry::{Event, Parent};
 
 /// An event in the caller's form. The registry stores no part of an event, so its strings are drawn
-/// from where the caller has them, without a copy.
+/// from the caller's memory, without a copy.
 pub trait EventParts {
     /// The event.
     ghost whole: { Self → Event };

@@ -168,7 +168,7 @@ pub struct LinesRun<W: Output> {
 ///
 /// `LinesRun::fault` has the line's number and the cause:
 ///
-/// - `Settings` at line 1 if it isn't valid settings, or if there is no line.
+/// - `Settings` at line 1 if it isn't valid settings, or is missing.
 /// - `NotACall` if a further line isn't a call.
 /// - `Refused` if a line's call is refused. If an allocation fails in a call, it is
 ///   `Refused(Memory)`.
@@ -445,7 +445,7 @@ fn judge<W: Output, FT: FormatTime>(
 }
 
 /// Returns the exit status of the program after a run: 2 for `Settings` and 1 for any other fault.
-/// Without a fault it is 0 if the last text was flushed, otherwise 1.
+/// Without a fault it is 0 if the last output was flushed, otherwise 1.
 pub fn status(fault: &Option<LineFault>, flushed: bool) -> u8
     ensures { result ≡ status_of fault.now flushed }
 {

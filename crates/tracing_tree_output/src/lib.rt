@@ -1,4 +1,4 @@
-//! Outputs of text: in memory, or to a file, a pipe or a terminal.
+//! Outputs of a drawing: in memory, or to a file, a pipe or a terminal.
 #![tactic(auto)]
 
 mod output;

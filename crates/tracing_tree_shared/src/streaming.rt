@@ -113,7 +113,7 @@ impl<W: Output, FT: FormatTime> Counted<W, FT> {
 /// and no passes, and its memory is only that of the live spans. Contracts see the two settings
 /// that events are drafted with.
 ///
-/// Under its lock each call is `Counted::apply`, so its text is the drawing of the accepted calls
+/// Under its lock each call is `Counted::apply`, so its output is the drawing of the accepted calls
 /// in the order of their numbers. The contract of `submit` can't say so, since a contract can't
 /// refer to the value inside a mutex. It says that some layer returns this answer.
 #[derive(Drop)]

@@ -10,7 +10,7 @@ ghost use Rattle.tracing_tree_time.specs.Pieces.{filled_in, piece_text, pieces_t
 use super::TimeFault;
 use std::alloc::AllocError;
 
-/// A piece of a timer's text.
+/// A piece of a timer's string.
 #[derive(Clone, Copy)]
 pub(super) enum Piece {
     // A string, unchanged.

@@ -160,8 +160,8 @@ impl<'a> Options<'a> {
         self.is_failed || matches!(self.min_level, Some(Level::Error))
     }
 
-    // Returns what --level shows of tests: events of this level and above, and the lines of a failed
-    // test. None if it shows all.
+    // Returns what --level shows of tests: events of this level and above, and the lines of a
+    // failed test. None if it shows all.
     pub fn failure_lines(&self, alloc: Global) -> Option<FailureLines> {
         let min_level = self.min_level?;
         Some(FailureLines::new(alloc, min_level))

@@ -62,7 +62,7 @@ pub struct TimeStyle {
 /// of its span.
 ///
 /// The columns have a fixed width, so the tree stays aligned. The date is shown in the first row
-/// that has one, and where it changes. A row without a known time has empty columns. The columns
+/// that has one, and when it changes. A row without a known time has empty columns. The columns
 /// come before the name of the call's thread, so they are drawn if names of threads are.
 #[derive(Drop)]
 pub struct TimeColumns {

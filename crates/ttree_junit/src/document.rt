@@ -44,8 +44,8 @@ impl JunitCalls {
 /// made at `moment`. Lines around a document are events at the root, and another document may
 /// follow. If a document ends early, the case that is open is unfinished, and its spans close.
 ///
-/// `Selection::Failures` leaves out cases that passed or were skipped, and suites without a failure.
-/// They are counted nevertheless.
+/// `Selection::Failures` leaves out cases that passed or were skipped, and suites without a
+/// failure. They are counted nevertheless.
 ///
 /// # Errors
 ///

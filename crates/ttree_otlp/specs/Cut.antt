@@ -39,8 +39,8 @@ is_note (Span span) = false
 is_note (Note note) = true
 is_note (LeftOut count) = false
 
--- A span or a trace is drawn if it isn't too deep, and if it lasts or something in it does. An event
--- or a log is drawn if its span is.
+-- A span or a trace is drawn if it isn't too deep, and if it lasts or something in it does. An
+-- event or a log is drawn if its span is.
 abbrev pub is_drawn : Cut → Row → List Row → Bool
 is_drawn cut row others =
     (is_within row.depth cut.depth

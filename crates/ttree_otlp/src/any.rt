@@ -1,4 +1,4 @@
-//! Shows a value of OTLP (`AnyValue`) as text.
+//! Shows a value of OTLP (`AnyValue`) as a string.
 
 ghost use Rattle.std.specs.Prelude.{◌≡◌, ◌++◌, true, IfOk, OnOk, codes, option_map, string_bytes};
 ghost use Rattle.json.specs.Value.{items_view, members_view, value_view};

@@ -43,7 +43,7 @@ fn is_long(min_level: u64, start: u64, end: u64) -> bool
     end == 0 || end.saturating_sub(start) >= min_level
 }
 
-// Returns whether a row is a span that is long enough, or an event or a log in no span of the input.
+// Returns whether a row is a span that is long enough, or an event or a log in no input span.
 fn lasts(min_level: u64, row: &Row) -> bool
     ensures { result ≡ lasts min_level row.now }
 {

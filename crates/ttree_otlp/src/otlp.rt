@@ -81,7 +81,7 @@ pub struct OtlpCalls {
 }
 
 /// Reads an input, and returns the calls that [`run_otlp`] makes on its receiver. The arguments are
-/// those of `run_otlp`, and so are the notes. The text is dropped before the calls are made, since
+/// those of `run_otlp`, and so are the notes. The input is dropped before the calls are made, since
 /// both together would take much memory.
 pub fn otlp_calls<N: Notes>(
     alloc: Global,

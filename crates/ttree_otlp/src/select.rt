@@ -33,8 +33,8 @@ pub struct Selection {
     /// and logs are shown if their span is.
     pub is_failed: bool,
 
-    /// Which of the selected spans are left out, with their events and logs. A span in which spans
-    /// are left out counts them. A span with one in it that isn't left out is shown.
+    /// Which of the selected spans are left out, with their events and logs. A span counts
+    /// the spans in it that are left out. A span with one in it that isn't left out is shown.
     pub cut: Cut,
 }
 

@@ -7,8 +7,8 @@ use Rattle.ttree_prefix.specs.declared.mark.Mark.{Mark}
 use Rattle.ttree_prefix.specs.declared.mark.Mark.TheVariants.{Bar, Bracket, Job, Time, Tab, Colon, DateTime, Pod, Stamp}
 use Rattle.ttree_prefix.specs.declared.streams.Stream.{Stream}
 
--- Whether a prefix names a stream: a service, a pod or a program. Another one may have a time, which
--- changes from line to line.
+-- Whether a prefix names a stream: a service, a pod or a program. Another one may have a time,
+-- which changes from line to line.
 abbrev pub names_stream : Mark → Bool
 names_stream Bar = true
 names_stream Bracket = true
@@ -65,8 +65,8 @@ placed_in span (Clone id) = Clone id
 placed_in span (Record id record_of_it) = Record id record_of_it
 placed_in span (Close id context) = Close id context
 
--- The calls of a line that isn't an object. If the last object was of another stream, its events are
--- in the span of the last event of its own stream.
+-- The calls of a line that isn't an object. If the last object was of another stream, its events
+-- are in the span of its stream's last event.
 abbrev pub calls_in : List ℕ → List Stream → List Call → List Call
 calls_in prefix streams calls =
     if has_last prefix streams then calls

@@ -1,4 +1,4 @@
-//! What the prefix of a line is, and where it ends.
+//! What the prefix of a line is, and its end.
 
 ghost use Rattle.std.specs.Prelude.{◌≡◌, get_or, option_map};
 ghost use Rattle.ttree_source.specs.Traces.{is_digit};

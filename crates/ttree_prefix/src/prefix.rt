@@ -24,7 +24,7 @@ use ttree_source::values::{is_object, value_of};
 /// A line that isn't JSON and has the mark is taken without its prefix, which comes last among the
 /// fields of the line's events. If the prefix names a stream, such as a service, a line that isn't
 /// an object stays in it: if the last object was of another stream, it is an event in the span of
-/// the last event of its own. Every other line is taken unchanged.
+/// its stream's last event. Every other line is taken unchanged.
 #[derive(Drop)]
 pub struct Prefixed<S> {
     source: S,
@@ -61,8 +61,8 @@ impl<S> Prefixed<S> {
 }
 
 impl<S: Source> Prefixed<S> {
-    // Takes a line that has this prefix, and then this rest. It isn't inlined, since its `Scratch` of
-    // 16 KiB would be cleared for lines without a prefix too.
+    // Takes a line that has this prefix, and then this rest. It isn't inlined, since its `Scratch`
+    // of 16 KiB would be cleared for lines without a prefix too.
     #[inline(never)]
     fn take_rest(
         &mut self,

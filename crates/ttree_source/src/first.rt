@@ -150,7 +150,7 @@ pub fn without_mark(line: &[u8]) -> &[u8]
 /// - An object with an array at `traceEvents` is Chrome's.
 /// - An object with an array at `resourceSpans`, `resourceLogs` or `resourceMetrics` is OTLP's.
 /// - An object that has a key, and only keys of settings, is a line of settings and calls. So is
-///   one that names a call at `call`.
+///   an object that names a call at `call`.
 /// - An object with one of the five levels at `level`, in capitals, and a value at `fields` or
 ///   `target` is tracing's, unless it has a `msg`, or a `message` beside `fields`.
 /// - An object with a key of levels (`level`, `severity`, `lvl`, `log.level`, `PRIORITY`) and a key

@@ -6,8 +6,8 @@ ghost use Rattle.ttree_source.specs.Length.{length_text, thousandths_text};
 use std::alloc::{AllocError, Global};
 use tracing_tree_base::text::Text;
 
-/// Returns a duration in nanoseconds as text: in seconds or milliseconds if it has at least one of
-/// them, otherwise in microseconds. It has three digits after the point. Further digits are cut off.
+/// Returns a duration in nanoseconds as a string: in seconds or milliseconds if it has at least one
+/// of them, otherwise in microseconds, with three digits after the point. Further ones are cut off.
 ///
 /// # Errors
 ///

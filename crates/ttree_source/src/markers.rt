@@ -52,8 +52,8 @@ fn begins_otlp_key(text: &[u8]) -> bool
         || text.starts_with("\"resourceMetrics\"".as_bytes())
 }
 
-/// Returns whether a key starts here with which a line of logs, of Go's tests or of calls starts, and
-/// no trace does.
+/// Returns whether a key starts here that is the first key of a line of logs, of Go's tests or of
+/// calls. A trace never begins with such a key.
 pub(crate) fn begins_line_key(text: &[u8]) -> bool
     ensures { result ≡ begins_line_key text.now }
 {

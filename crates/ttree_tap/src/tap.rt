@@ -117,7 +117,7 @@ impl Tap {
 
     /// Creates a source like `new` does, that reports only what failed. Results that passed, were
     /// skipped or are TODO are left out, with the lines before them, and so are subtests and files
-    /// in which nothing failed. Lines after a failure belong to it, and of those before it the
+    /// without a failure. Lines after a failure belong to it, and of those before it the
     /// output, and the comments from one with its name on. The last event counts all results.
     ///
     /// # Errors

@@ -1,4 +1,4 @@
-//! The viewer of a page: the fixed texts before and after its data.
+//! The viewer of a page: the fixed strings before and after its data.
 #![tactic(auto)]
 
 mod fixed;

@@ -142,7 +142,7 @@ impl<'a> Reader<'a> {
         }
     }
 
-    /// Returns the next token as [`Reader::next`] does, except that a `<` in content is text. So
+    /// Returns the next token as [`Reader::next`] does, but a `<` in content is a character. So
     /// what surrounds a document can be read without taking it for markup.
     ///
     /// # Errors

@@ -1,4 +1,4 @@
-//! Calls, and the text that they must draw.
+//! Calls, and what they must draw.
 
 use std::alloc::{AllocError, Global};
 use test_support::at;

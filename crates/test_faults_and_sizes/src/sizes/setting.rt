@@ -1,4 +1,4 @@
-//! Settings of a layer: some for which a run's text is known, and others by numbers.
+//! Settings of a layer: some for which a run's output is known, and others by numbers.
 
 ghost use Rattle.std.specs.Prelude.{◌≡◌, None, false};
 

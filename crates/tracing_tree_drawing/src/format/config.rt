@@ -101,7 +101,7 @@ impl Config {
         }
     }
 
-    /// Sets whether text is painted with ANSI escapes for a terminal.
+    /// Sets whether rows are painted with ANSI escapes for a terminal.
     pub fn with_ansi(self, ansi: bool) -> Config
         ensures { result ≡ record self { ansi = ansi } }
     {
@@ -235,7 +235,7 @@ impl Config {
         }
     }
 
-    /// Returns whether text is painted for a terminal.
+    /// Returns whether rows are painted for a terminal.
     pub fn ansi(&self) -> bool
         ensures { result ≡ self.now.ansi }
     {

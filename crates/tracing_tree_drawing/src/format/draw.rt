@@ -371,7 +371,7 @@ pub fn push_row(
 }
 
 impl RowDrawing<'_> {
-    /// Appends everything before the row's block, and returns where the row and its block begin.
+    /// Appends everything before the row's block. Returns the starts of the row and of its block.
     /// The caller then appends the block, and calls [`RowDrawing::end`].
     ///
     /// # Errors

@@ -17,10 +17,10 @@ use tracing_tree_base::field::Field;
 use tracing_tree_base::{Context, Id, Refusal};
 use tracing_tree_output::{Output, OutputFault, write_whole};
 
-/// The texts of a call while it is built, and the last span shown. (`Buffers` of the Rust crate.)
+/// The rows of a call while they are built, and the last span shown. (`Buffers` of the Rust crate.)
 #[derive(Drop)]
 pub struct Buffers {
-    /// The block of the row that is being built, or the text that is ready to be written.
+    /// The block of the row that is being built, or the rows that are ready to be written.
     pub current_buf: String,
 
     /// The rows that have been drawn.

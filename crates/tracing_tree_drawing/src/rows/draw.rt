@@ -33,7 +33,7 @@ impl From<AllocError> for DrawFault {
     }
 }
 
-/// Returns the text of rows, drawn with `amount` columns per level. The caller must ensure that
+/// Returns the drawing of rows, with `amount` columns per level. The caller must ensure that
 /// `amount` is 2 or more.
 ///
 /// # Errors

@@ -1,4 +1,4 @@
-//! Finds the ancestors of events in the text of a drawing.
+//! Finds the ancestors of events in a drawing.
 
 ghost use Rattle.std.specs.List.{range_with_len};
 ghost use Rattle.std.specs.Prelude.{◌≡◌, ℕ, ◌+◌, ◌++◌, ◌∷◌, ◌<◌, ◌≤◌, ◌==◌, ◌^◌, List, [], Some, map, IfOk, IfErr, OnOk, OnErr, if◌then◌else◌};
@@ -12,7 +12,7 @@ use super::row::{Row, Shape};
 use std::alloc::{AllocError, Global};
 use std::marker::Model;
 
-/// Indices in a list of rows, from 0, each of which may be missing. Contracts see them as a list.
+/// Indices in a list of rows, from 0. Each may be missing. Contracts see them as a list.
 #[derive(Drop)]
 pub struct Places {
     inner: Vec<Option<usize>>,

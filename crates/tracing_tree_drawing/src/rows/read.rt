@@ -1,4 +1,4 @@
-//! Parses rows from the text of a drawing.
+//! Parses rows from a drawing.
 
 ghost use Rattle.std.specs.Prelude.{◌≡◌, ℕ, ◌+◌, ◌≤◌, ◌<◌, ◌^◌, List, None, Some, Ok, false, IfOk, IfErr, IsTrue, MatchOption};
 ghost use Rattle.tracing_tree_drawing.specs.Rows.Line.{after_run, one_line_row, read_corners, read_event, read_first, read_later, read_root};
@@ -389,7 +389,7 @@ impl<'a> TextReader<'a> {
     }
 }
 
-/// Parses a drawing. Drawing the rows yields the same text, and no other rows have that text. The
+/// Parses a drawing. Drawing the rows yields the same bytes, and no other rows do. The
 /// caller must ensure that `amount` is 2 or more.
 ///
 /// ```rust

@@ -115,7 +115,7 @@ impl Model for Row {
 }
 
 impl Row {
-    /// Returns the row of this shape and level with these lines, or `None` if there is no such row.
+    /// Returns the row of this shape and level with these lines, or `None` if they don't fit.
     /// Never allocates.
     ///
     /// A row has at least one line, and no line contains a line end. `OpenRoot` and `CloseRoot`

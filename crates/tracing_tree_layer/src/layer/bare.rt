@@ -19,7 +19,7 @@ use tracing_tree_time::FormatTime;
 ///
 /// After a call was refused for the timer or the writer, each call is refused with `Failed`. After
 /// every other refusal the spans, their marks and the last span are unchanged, and nothing was
-/// written. After `Writer` a first part of the call's text may have been written.
+/// written. After `Writer` a first part of the call's output may have been written.
 impl<W: Output, FT: FormatTime> HierarchicalLayer<W, FT> {
     /// Draws a span that was just made. (`on_new_span` of the Rust crate.)
     ///

@@ -126,7 +126,7 @@ pub(super) fn push_span_block(
     push_span_text(out, config, span)
 }
 
-/// Appends the level, target and fields of an event, which come after the timer's texts.
+/// Appends the level, target and fields of an event, which come after the timer's strings.
 ///
 /// # Errors
 ///

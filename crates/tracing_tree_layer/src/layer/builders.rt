@@ -7,7 +7,7 @@ use tracing_tree_output::Output;
 use tracing_tree_time::FormatTime;
 
 impl<W: Output, FT: FormatTime> HierarchicalLayer<W, FT> {
-    /// Sets whether text is painted with ANSI escapes for a terminal.
+    /// Sets whether rows are painted with ANSI escapes for a terminal.
     pub fn with_ansi(mut self, ansi: bool) -> HierarchicalLayer<W, FT>
         ensures { result ≡ record self { settings = record self.settings { ansi = ansi } } }
     {

@@ -12,7 +12,7 @@ use tracing_tree_layer::flushed::Flushed;
 /// A buffered input of lines. The next line may take time to arrive, as in a pipe.
 ///
 /// A run is generic over its input, so it can read by these methods only. [`LineInput::read_line`],
-/// the only one that may wait, takes a receiver that was flushed. So a reader of a live input's
+/// the only method that may wait, takes a flushed receiver. So a reader of a live input's
 /// drawing sees what each line drew before the next line is waited for.
 pub trait LineInput {
     ghost use Rattle.std.specs.Prelude.{◌≡◌, List, ℕ, Option};

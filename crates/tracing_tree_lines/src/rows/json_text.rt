@@ -59,7 +59,7 @@ impl<T: Drop> From<AllocFailed<T>> for RowCause {
     }
 }
 
-/// The line at which the reading of a drawing ended, and why. It is displayed as `line N: CAUSE`.
+/// The line that ended the reading of a drawing, and why. It is displayed as `line N: CAUSE`.
 #[derive(Clone, Copy, Debug, PartialEq, Eq)]
 pub struct RowFault {
     /// The line's number, from 1.

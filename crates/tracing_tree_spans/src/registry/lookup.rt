@@ -14,7 +14,7 @@ use tracing_tree_base::field::Fields;
 ///
 /// A custom registry must ensure three things. No two live spans have the same id. The parent of
 /// each live span is live. No span is its own ancestor. The order of its list of spans and its
-/// choice of ids are free. ([`Registry`] lists spans in the order in which they were made, and its
+/// choice of ids are free. ([`Registry`] lists spans in the order of their creation, and its
 /// ids rise.)
 ///
 /// [`Registry`]: crate::registry::Registry

@@ -27,7 +27,7 @@ use tracing_tree_base::{Id, Refusal};
 /// Each span is stored with its path and the number of its children. So a path is available at
 /// once, and a close visits only spans on the path of the span that closes.
 ///
-/// A path of at most five spans is stored inline in the span's record, which takes 256 bytes. Longer
+/// A path of at most five spans is stored in the span's record, which takes 256 bytes. Longer
 /// paths share lists of ids. A span's first child adds eight bytes to the list of its parent.
 /// Another child that is live at the same time copies its parent's path: 80 bytes at depth 10, 800
 /// at depth 100. The lists double when they grow, and so does the list of records. So 100,000 live
@@ -40,7 +40,7 @@ use tracing_tree_base::{Id, Refusal};
 /// let parent = spans.new_span(root, here)?;
 /// let id = spans.new_span(child, here)?; // below `Parent::Of(parent)`
 /// spans.try_close(parent)?; // false: the child is live
-/// spans.try_close(id)?; // true: both are gone
+/// spans.try_close(id)?; // true: both are removed
 /// ```
 #[derive(Drop)]
 pub struct Registry {

@@ -11,7 +11,7 @@ use tracing_tree_base::{Id, Refusal};
 
 impl Registry {
     /// Returns the ids that `try_close` would remove, as [`closing_into`](Registry::closing_into)
-    /// lists them. It never allocates if there are no such ids.
+    /// lists them. It never allocates if nothing would be removed.
     ///
     /// # Errors
     ///
