@@ -3,3 +3,4 @@ pub mod WorkedLines
 pub mod Taken
 pub mod Fitted
 pub mod Written
+pub mod Printable

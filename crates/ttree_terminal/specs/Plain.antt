@@ -12,6 +12,10 @@ is_control byte =
 abbrev pub is_c1 : ℕ → ℕ → Bool
 is_c1 before byte = (before == 194) && nat_le 128 byte && nat_le byte 159
 
+-- a printable character of ASCII, which is no part of a control
+abbrev pub is_printable : ℕ → Bool
+is_printable byte = nat_le 32 byte && nat_le byte 126
+
 -- bytes have no control after this byte
 abbrev pub plain_after : ℕ → List ℕ → Bool
 plain_after before [] = true
