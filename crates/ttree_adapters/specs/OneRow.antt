@@ -1,5 +1,5 @@
 -- Spans in one row each.
-use Rattle.std.specs.Prelude.{ℕ, ◌≡◌, ◌⊎◌, ◌==◌, ◌||◌, Bool, false, if◌then◌else◌, List, flat_map, map, Option, Result, Err, codes}
+use Rattle.std.specs.Prelude.{ℕ, ◌≡◌, ◌⊎◌, ◌==◌, ◌||◌, Bool, true, false, if◌then◌else◌, List, flat_map, map, Option, Result, Err, codes}
 use Rattle.std.specs.Char.{encode_utf8}
 use Rattle.std.specs.List.{list_any}
 use Rattle.std.specs.Str.{chars}
@@ -68,6 +68,11 @@ makes_one_row s value calls = record { calls = map one_row_call calls; mapping =
 
 module _ {C : Type 0} (answers : Call → Result Reply Refusal → C → C → Type 0) where
   -- the receiver answers the call whose span takes one row, or memory ran out before
-  abbrev pub one_row_answers : Call → Result Reply Refusal → C → C → Type 0
-  one_row_answers call answer old new =
+  abbrev pub AnswersInOneRow : Bool → Call → Result Reply Refusal → C → C → Type 0
+  AnswersInOneRow true call answer old new =
       answers (one_row_call call) answer old new ⊎ (answer ≡ Err Memory) × (new ≡ old)
+  AnswersInOneRow false call answer old new = answers call answer old new
+
+  -- a call is passed on unchanged, unless its span would take several rows
+  abbrev pub one_row_answers : Call → Result Reply Refusal → C → C → Type 0
+  one_row_answers call = AnswersInOneRow (has_lines call) call

@@ -75,8 +75,8 @@ impl<C> OneRowCalls<C> {
     }
 }
 
-/// The receiver answers the call whose span takes one row. A call is also refused if an allocation
-/// fails before that, and nothing has changed then.
+/// Calls are passed on unchanged, except those whose span would take several rows. Such a call is
+/// also refused if an allocation fails before it is passed on, and nothing has changed then.
 impl<C: Calls> Calls for OneRowCalls<C> {
     ghost use Rattle.ttree_adapters.specs.OneRow.{one_row_answers};
 
