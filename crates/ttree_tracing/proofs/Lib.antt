@@ -1,1 +1,2 @@
+pub mod LoneMessages
 mod Worked

@@ -201,6 +201,7 @@ fn other_parent(alloc: Global, value: &Value<'_>) -> Result<Option<Listed>, Allo
 }
 
 // Returns what a line reports, given its event's fields.
+#[tactic(auto, using(crate::proofs::LoneMessages::event_anyway))]
 pub(super) fn kind_in(
     alloc: Global,
     fields: &[Field],
@@ -213,6 +214,10 @@ pub(super) fn kind_in(
     }
     if is_timed_close(fields) {
         return Ok(Kind::Close);
+    }
+    if let Kind::Event = kind_of(fields, false) {
+        // Most lines are events whatever their current span is, which takes time to read.
+        return Ok(Kind::Event);
     }
     let is_current = is_current(alloc, value)?;
     Ok(kind_of(fields, is_current))
