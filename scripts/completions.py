@@ -116,7 +116,8 @@ def fish(name, given):
         lines.append(f"complete -c {name} -f\n")
     for it in given.options:
         short = f" -s {it.short}" if it.short else ""
-        value = " -x" if it.value and not it.optional else ""
+        # No value is a file. An optional one comes after `=`.
+        value = " -f" if it.optional else " -x" if it.value else ""
         values = f" -a '{' '.join(it.values)}'" if it.values else ""
         text = it.summary.replace("\\", "\\\\").replace("'", "\\'")
         lines.append(f"complete -c {name}{short} -l {it.long}{value}{values} -d '{text}'\n")

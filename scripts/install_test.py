@@ -199,7 +199,9 @@ def check_fish(name, given):
     for it in given.options:
         if it.values:
             option = f"--{it.long}"
-            equal(f"{name}.fish: values of {option}", asked(f"{name} {option} "), {*it.values})
+            before = f"{option}=" if it.optional else ""
+            said = asked(f"{name} {before or option + ' '}")
+            equal(f"{name}.fish: values of {option}", said, {before + value for value in it.values})
 
 
 def check_completions(name, program):

@@ -16,7 +16,7 @@ use ttree_terminal::Shaping;
 
 // What `--help` says of the first line.
 const DETECTION: &str =
-    "Without --from, the first line that determines a format decides, and the lines before it are drawn as plain events: a JSON object with a string at \"Action\" is of go-test; a line with TAP's version, a plan such as 1..5, or a result such as \"ok 1\", is of tap; one that begins with <testsuite is of junit; an object with an array at \"resourceSpans\", \"resourceLogs\" or \"resourceMetrics\" is of otlp; a line that begins with [, or with { and is no whole JSON value (unless its first key is one of logs), or an object with an array at \"traceEvents\", is of chrome; an object with only settings, or with a call at \"call\", is of lines; an object with TRACE, DEBUG, INFO, WARN or ERROR at \"level\" and anything at \"fields\" or \"target\" is of tracing; an object with a level at \"level\", \"severity\", \"lvl\", \"log.level\" or \"PRIORITY\", and a message at \"msg\", \"message\", \"event\" or \"MESSAGE\", is of logs. If none of 1,000 lines or 1 MiB does, the input is printed unchanged, and the status is 2.";
+    "Without --from, the first line that determines a format decides, and the lines before it are drawn as plain events: a JSON object with a string at \"Action\" is of go-test; a line with TAP's version, a plan such as 1..5, or a result such as \"ok 1\", is of tap; a line that begins with <testsuite is of junit; an object with an array at \"resourceSpans\", \"resourceLogs\" or \"resourceMetrics\" is of otlp; a line that begins with [, or with { and isn't a whole JSON value (unless its first key is one of logs), or an object with an array at \"traceEvents\", is of chrome; an object with only settings, or with a call at \"call\", is of lines; an object with TRACE, DEBUG, INFO, WARN or ERROR at \"level\" and anything at \"fields\" or \"target\" is of tracing; an object with a level at \"level\", \"severity\", \"lvl\", \"log.level\" or \"PRIORITY\", and a message at \"msg\", \"message\", \"event\" or \"MESSAGE\", is of logs. If no line of the first 1,000 or of the first 1 MiB does, the input is printed unchanged, and the status is 2.";
 
 // The options and arguments of the command line.
 #[derive(Drop)]
@@ -423,7 +423,7 @@ fn with_rows<'a>(alloc: Global, command: Command<'a>) -> Result<Command<'a>, All
         .arg(flag(
             alloc,
             "no-retrace",
-            "Shows no path again where the drawing comes back from another branch",
+            "Shows no path again when the drawing comes back from another branch",
         ))?
         .arg(flag(alloc, "threads", "Shows the thread of each row, of tracing"))?
         .arg(times_option(alloc))?
@@ -479,7 +479,7 @@ fn level_option<'a>(alloc: Global) -> Arg<'a> {
         .long("level")
         .value_name("LEVEL")
         .help(
-            "Draws only events of this level and above, and spans only where one happens in them; of go-test also the lines that a failed test printed; of tap and junit, error draws what --failed draws",
+            "Draws only events of this level and above, and the spans that they occur in; of go-test also the lines that a failed test printed; of tap and junit, error draws what --failed draws",
         )
         .value_parser(&["trace", "debug", "info", "warn", "error"][..])
 }
@@ -497,13 +497,13 @@ fn service_option<'a>(alloc: Global) -> Arg<'a> {
         .long("service")
         .value_name("NAME")
         .help(
-            "Draws only the spans and logs of this service, and the spans that they are in; otlp alone",
+            "Draws only the spans and logs of this service, and the spans that they are in; only of otlp",
         )
 }
 
 fn trace_option<'a>(alloc: Global) -> Arg<'a> {
     Arg::new(alloc, "trace").long("trace").value_name("ID").help(
-        "Draws only the traces whose id begins with this; otlp alone",
+        "Draws only the traces whose id begins with this; only of otlp",
     )
 }
 
@@ -548,7 +548,7 @@ fn fields_option<'a>(alloc: Global) -> Arg<'a> {
         .long("fields")
         .value_name("KEYS")
         .value_delimiter(',')
-        .help("Shows these members of each line too, such as target,file,line; tracing alone")
+        .help("Shows these members of each line too, such as target,file,line; only of tracing")
 }
 
 fn width_option<'a>(alloc: Global) -> Arg<'a> {
@@ -556,7 +556,7 @@ fn width_option<'a>(alloc: Global) -> Arg<'a> {
         .long("width")
         .value_name("N")
         .help(
-            "Cuts rows at N columns, and none if N is 0; without it, rows are cut at COLUMNS on a terminal, if it is set",
+            "Cuts rows at N columns; 0 cuts no row; without it, rows are cut at COLUMNS on a terminal, if it is set",
         )
         .value_parser(value_parser!(usize))
 }
