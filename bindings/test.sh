@@ -172,6 +172,14 @@ if can_test_rust; then
     unset TRACING_TREE_LIB
     step "build of the Rust crate" cargo build --offline --quiet --lib --example program --example server
     step "what the example in Rust draws" prints "$top/bindings/c/server.out" target/debug/examples/server
+    # Draws an event in this time zone, whose row must have the offset that `date` prints.
+    shows_offset() {
+        TZ=$1 target/debug/examples/offset 2> "$room/offset" &&
+            grep -q " $(TZ=$1 date +%:z):00 INFO starting" "$room/offset"
+    }
+    step "build with the machine's offset" cargo build --offline --quiet --features local-offset --example offset
+    step "the machine's offset east of UTC" shows_offset Asia/Kolkata
+    step "the machine's offset west of UTC" shows_offset America/St_Johns
     tested "tests of the Rust crate" 's/^test result: ok. \([0-9]*\) passed.*/\1/p' cargo test --offline --quiet
     cd "$top"
 fi

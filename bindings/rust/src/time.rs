@@ -151,7 +151,8 @@ impl FormatTime for UtcDateTime {
     }
 }
 
-/// The date and time at a fixed offset. The machine's own offset isn't read.
+/// The date and time at a fixed offset. Only `of_machine` reads the machine's offset, with the
+/// feature `local-offset`.
 #[derive(Clone, Copy, Debug, Default, PartialEq, Eq)]
 pub struct LocalDateTime {
     offset: i32,
@@ -165,6 +166,15 @@ impl LocalDateTime {
     pub fn with_offset(seconds: i32) -> Option<Self> {
         let fits = (-93_599..=93_599).contains(&seconds);
         fits.then_some(LocalDateTime { offset: seconds, higher_precision: false })
+    }
+
+    /// Returns a timer at the machine's offset from UTC as it is now. Returns `None` if the offset
+    /// can't be read, which includes a process of several threads: another thread could change the
+    /// environment that has the time zone. So call it first in `main`.
+    #[cfg(feature = "local-offset")]
+    pub fn of_machine() -> Option<Self> {
+        let offset = time::UtcOffset::current_local_offset().ok()?;
+        LocalDateTime::with_offset(offset.whole_seconds())
     }
 }
 
