@@ -145,9 +145,9 @@ fn open_row(soak: &mut Soak) -> anyhow::Result<()> {
     Ok(())
 }
 
-// A chain of `depth` spans below the span `above`. Returns its last.
-fn chain(soak: &mut Soak, above: u64, depth: u64) -> anyhow::Result<u64> {
-    let mut last = above;
+// A chain of `depth` spans below the span `parent`. Returns its last.
+fn chain(soak: &mut Soak, parent: u64, depth: u64) -> anyhow::Result<u64> {
+    let mut last = parent;
     for _span in 0..depth {
         last = soak.calls.open(Some(last))?;
     }

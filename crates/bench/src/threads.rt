@@ -26,11 +26,11 @@ const MOST: usize = 64;
 pub fn run<R: AllocGlobal + Threads + Wait + Clock + Print + Sync>(
     rt: &R,
     work: Work,
-    words: &[String],
+    args: &[String],
 ) -> anyhow::Result<()> {
     let mut numbers = [1usize, 1, 1];
-    for (number, word) in numbers.iter_mut().zip(words.iter()) {
-        *number = word.as_str().parse::<usize>()?;
+    for (number, arg) in numbers.iter_mut().zip(args.iter()) {
+        *number = arg.as_str().parse::<usize>()?;
     }
     let [threads, events, fields] = numbers;
     anyhow::ensure!(1 <= threads && threads <= MOST, "one thread to sixty-four");

@@ -311,22 +311,22 @@ fn leaves_of_one(calls: &mut Calls, spans: u32) -> Result<(), AllocError> {
 
 // A chain of spans, each the parent of the next.
 fn chain(calls: &mut Calls, spans: u32) -> Result<(), AllocError> {
-    let mut above = None;
+    let mut parent = None;
     for _span in 0..spans {
-        above = Some(calls.open(above)?);
+        parent = Some(calls.open(parent)?);
     }
     Ok(())
 }
 
 // A chain of spans, and a second leaf beside its last.
 fn leaves(calls: &mut Calls, depth: u32) -> Result<(), AllocError> {
-    let mut above = None;
+    let mut parent = None;
     let mut last = None;
     for _span in 0..depth {
-        above = last;
+        parent = last;
         last = Some(calls.open(last)?);
     }
-    calls.open(above)?;
+    calls.open(parent)?;
     Ok(())
 }
 

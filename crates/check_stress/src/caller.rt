@@ -131,12 +131,12 @@ impl Caller {
 
     /// Returns whether the places of the calls rise.
     pub fn is_in_order(&self) -> bool {
-        let mut least = 0;
+        let mut next = 0;
         for emitted in &self.emitted {
-            if emitted.place < least {
+            if emitted.place < next {
                 return false;
             }
-            least = emitted.place.saturating_add(1);
+            next = emitted.place.saturating_add(1);
         }
         true
     }

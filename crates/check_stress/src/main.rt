@@ -50,12 +50,12 @@ fn main(rt: HostRuntime) -> anyhow::Result<()> {
 
 // Returns how many rounds, and the seed.
 fn asked(rt: &(impl AllocGlobal + Env)) -> anyhow::Result<(u64, u64)> {
-    let mut words = std::env::args(rt)?.skip(1);
-    let rounds = match words.next() {
+    let mut args = std::env::args(rt)?.skip(1);
+    let rounds = match args.next() {
         Some(word) => word.as_str().parse::<u64>()?,
         None => ROUNDS,
     };
-    let seed = match words.next() {
+    let seed = match args.next() {
         Some(word) => word.as_str().parse::<u64>()?,
         None => SEED,
     };

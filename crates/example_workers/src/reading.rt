@@ -35,10 +35,10 @@ fn is_under_its_order(rows: &[Row], path: &EventPath) -> bool {
             .any(|place| number_in(rows, *place, "order id=") == named)
 }
 
-// Returns the number that comes after these words in the first line of a row.
-fn number_in(rows: &[Row], place: Option<usize>, words: &str) -> Option<u64> {
+// Returns the number that comes after this mark in the first line of a row.
+fn number_in(rows: &[Row], place: Option<usize>, mark: &str) -> Option<u64> {
     let line = rows.get(place?)?.lines().as_slice().first()?;
-    let (_, rest) = line.as_str().split_once(words)?;
+    let (_, rest) = line.as_str().split_once(mark)?;
     let number = match rest.split_once(',') {
         Some((number, _)) => number,
         None => rest,

@@ -157,8 +157,8 @@ fn draws_what_is_deep_and_wide(rt: HostRuntime) -> Result<(), Fail> {
     push_wide_event(&mut script)?;
     push_long_span(&mut script)?;
     for level in 0..DEPTH {
-        let above = DEPTH - level;
-        script.push(closed(above as u64 + 1), 2 * (above - 1), "┌─┘\n")?;
+        let depth = DEPTH - level;
+        script.push(closed(depth as u64 + 1), 2 * (depth - 1), "┌─┘\n")?;
     }
     script.push(closed(1), 0, "┘\n")?;
     script.runs(&rt)

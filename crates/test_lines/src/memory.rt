@@ -25,8 +25,8 @@ fn deferring(alloc: Global) -> Result<Box<Layered<Tape, ()>>, AllocError> {
 
 // Makes `depth` nested spans.
 fn nest(layered: &mut Layered<Tape, ()>, alloc: Global, depth: u64) -> Result<(), Fail> {
-    for above in 0..depth {
-        let current = if above == 0 { None } else { Some(above) };
+    for parent in 0..depth {
+        let current = if parent == 0 { None } else { Some(parent) };
         let made = made(alloc, "a", current)?;
         if layered.call(made).is_err() {
             return Err(Fail::from("refused"));

@@ -74,11 +74,11 @@ impl List {
     // Returns the span, its parent, and so on upward: a parent is older than its children.
     fn scope(&self, alloc: Global, id: Id) -> Result<Vec<Id>, AllocError> {
         let mut scope = Vec::new(alloc);
-        let mut above = Some(id);
+        let mut next = Some(id);
         for span in self.spans.iter().rev() {
-            if above == Some(span.id) {
+            if next == Some(span.id) {
                 scope.push(span.id)?;
-                above = span.parent;
+                next = span.parent;
             }
         }
         Ok(scope)

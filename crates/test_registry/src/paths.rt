@@ -56,11 +56,11 @@ fn finds_what_paths_share(rt: HostRuntime) -> Result<(), Fail> {
 // Returns a chain of `count` spans, each with another child in addition to the next, and a root.
 fn comb(alloc: Global, count: u64) -> Result<Registry, Fail> {
     let mut spans = Registry::new(alloc);
-    let mut above = None;
+    let mut parent = None;
     for number in 0..count {
-        make(alloc, &mut spans, above)?;
-        above = Some(number.wrapping_mul(2).wrapping_add(1));
-        make(alloc, &mut spans, above)?;
+        make(alloc, &mut spans, parent)?;
+        parent = Some(number.wrapping_mul(2).wrapping_add(1));
+        make(alloc, &mut spans, parent)?;
     }
     make(alloc, &mut spans, None)?;
     Ok(spans)

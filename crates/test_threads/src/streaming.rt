@@ -15,7 +15,7 @@ use tracing_tree_shared::StreamingLayer;
 
 // Submits `count` events, and returns whether their numbers rise.
 fn events<R: Wait>(rt: &R, alloc: Global, layer: &StreamingLayer<Tape, ()>, count: u64) -> bool {
-    let mut least = 0;
+    let mut next = 0;
     for _ in 0..count {
         let Ok(call) = event_call(alloc, Level::Info, "x", None) else {
             return false;
@@ -23,10 +23,10 @@ fn events<R: Wait>(rt: &R, alloc: Global, layer: &StreamingLayer<Tape, ()>, coun
         let Some(number) = stream(rt, alloc, layer, call) else {
             return false;
         };
-        if number < least {
+        if number < next {
             return false;
         }
-        least = number.saturating_add(1);
+        next = number.saturating_add(1);
     }
     true
 }

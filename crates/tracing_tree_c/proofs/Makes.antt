@@ -8,7 +8,7 @@ use Rattle.tracing_tree_layer.specs.declared.call.Call.{Call}
 use Rattle.tracing_tree_layer.specs.declared.call.Reply.{Reply}
 use Rattle.tracing_tree_c.specs.Foreign.{IsUtf8Field, IsUtf8Fields, Reads}
 use Rattle.tracing_tree_c.specs.declared.foreign.FieldRef.{FieldRef}
-use Rattle.tracing_tree_c.specs.Owned.{Kept}
+use Rattle.tracing_tree_c.specs.Owned.{Contents}
 use Rattle.tracing_tree_c.specs.Trees.{IsCalled, Makes, MakesCall, Mends, Performs, is_lost}
 use Rattle.tracing_tree_c.specs.declared.drawing.Drawing.{Drawing}
 use Rattle.tracing_tree_c.specs.declared.foreign.Unreadable.{Unreadable}
@@ -18,13 +18,13 @@ use Rattle.tracing_tree_c.specs.declared.outcome.Outcome.TheVariants.{Answered}
 
 -- what was read does what was asked
 pub makes : {T : Type 0} (Does : T → Result Reply Refusal → Drawing → Drawing → Type 0) (IsKnown IsText IsSmall : Type 0) (IsThis : T → Type 0)
-    (Asked : Result Reply Refusal → Drawing → Drawing → Type 0) (read : Result T Unreadable) (outcome : Outcome) (old new : Kept) →
+    (Asked : Result Reply Refusal → Drawing → Drawing → Type 0) (read : Result T Unreadable) (outcome : Outcome) (old new : Contents) →
     ((act : T) (answer : Result Reply Refusal) (before left : Drawing) → IsThis act → Does act answer before left → Asked answer before left) →
     Reads IsKnown IsText IsSmall IsThis read → Performs Does read outcome old new → Makes IsKnown IsText IsSmall Asked outcome old new
 makes D K U S I A read outcome None new asked r (e, n) = subst (λ (o : Outcome). Makes K U S A o None new) (sym e) (refl, n)
 makes D K U S I A (Ok act) outcome (Some old) new asked (known, text, is) (answer, left, eo, en, done) =
     subst (λ (o : Outcome). Makes K U S A o (Some old) new) (sym eo)
-    (subst (λ (n : Kept). Makes K U S A (Answered answer) (Some old) n) (sym en) (known, text, asked act answer old left is done))
+    (subst (λ (n : Contents). Makes K U S A (Answered answer) (Some old) n) (sym en) (known, text, asked act answer old left is done))
 makes D K U S I A (Err Unknown) outcome (Some old) new asked unknown (eo, en) =
     subst (λ (o : Outcome). Makes K U S A o (Some old) new) (sym eo) (unknown, en)
 makes D K U S I A (Err NotUtf8) outcome (Some old) new asked cannot (eo, en) =
@@ -33,7 +33,7 @@ makes D K U S I A (Err Starved) outcome (Some old) new asked large (eo, en) =
     subst (λ (o : Outcome). Makes K U S A o (Some old) new) (sym eo) (large, en)
 
 -- the parts of a call that were read make this call
-pub makes_call : {T : Type 0} (call : T → Call) (IsKnown IsText IsSmall : Type 0) (IsThis : Call → Type 0) (read : Result T Unreadable) (outcome : Outcome) (old new : Kept) →
+pub makes_call : {T : Type 0} (call : T → Call) (IsKnown IsText IsSmall : Type 0) (IsThis : Call → Type 0) (read : Result T Unreadable) (outcome : Outcome) (old new : Contents) →
     Reads IsKnown IsText IsSmall (λ parts. IsThis (call parts)) read → Performs (λ parts. IsCalled (call parts)) read outcome old new →
     Makes IsKnown IsText IsSmall (MakesCall IsThis) outcome old new
 makes_call call K U S I read outcome old new r p =

@@ -20,7 +20,7 @@ use Rattle.std_alloc.specs.Box.Ownership.{box_owns}
 use Rattle.std.specs.contracts.alloc.Global as heap
 use Rattle.std.specs.contracts.impls.GlobalAllocator.TheImpl.{ghosts}
 use Rattle.std.proofs.alloc.Global.TheLaws as heap_laws
-use Rattle.tracing_tree_c.specs.Owned.{Kept, owned, token}
+use Rattle.tracing_tree_c.specs.Owned.{Contents, owned, token}
 use Rattle.tracing_tree_c.specs.contracts.drawing.Drawing as inner
 use Rattle.tracing_tree_c.specs.contracts.tree.Tree as tree
 use Rattle.tracing_tree_c.proofs.Raws.{al}
@@ -42,7 +42,7 @@ abbrev pub word : Ptr → Bool → Val
 word at there = vstruct (vcons (ptr_val at) (vcons (vbool there) vnil))
 
 module _ {M : Type 1} {𝓤 : Ura M} {𝓛 : Logic 𝓤} {K : Type 0} {Γ : List (Item 𝓤)} {G : Goal 𝓤 𝓛.H} where
-  by_kept : K → (at : Ptr) (there : Bool) (k : Kept) → there ≡ is_some k
+  by_kept : K → (at : Ptr) (there : Bool) (k : Contents) → there ≡ is_some k
       → (there ≡ false → k ≡ None → Seq K 𝓛 Γ G)
       → ((x : R.Denot) → there ≡ true → k ≡ Some x → Seq K 𝓛 (‵ (box_owns token R at x) ∷ Γ) G)
       → Seq K 𝓛 (‵ (owned at k) ∷ Γ) G

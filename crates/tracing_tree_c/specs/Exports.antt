@@ -5,7 +5,7 @@ use Rattle.tracing_tree_base.specs.declared.context.Refusal.TheVariants.{NotHeld
 use Rattle.tracing_tree_time.specs.Clock.{Timer}
 use Rattle.tracing_tree_layer.specs.declared.call.Reply.{Reply}
 use Rattle.tracing_tree_layer.specs.declared.call.Reply.TheVariants.{Span, Closed}
-use Rattle.tracing_tree_c.specs.Owned.{Kept}
+use Rattle.tracing_tree_c.specs.Owned.{Contents}
 use Rattle.tracing_tree_c.specs.Trees.{Makes, current_id, seen_tree}
 use Rattle.tracing_tree_c.specs.Settings.{CanOpen, new_tree_seen, timer_of}
 use Rattle.tracing_tree_c.specs.declared.foreign.Unreadable.TheVariants as Fault
@@ -46,19 +46,19 @@ went_after outcome before = before
 
 -- the answer to an act, and what it leaves
 abbrev pub Answers : Type 0 → Type 0 → Type 0 → (Result Reply Refusal → Drawing → Drawing → Type 0)
-    → ℕ → Kept → Kept → Type 0
+    → ℕ → Contents → Contents → Type 0
 Answers IsKnown IsText IsSmall Does status old new =
     (outcome : Outcome) × (status ≡ status_of outcome)
     × Makes IsKnown IsText IsSmall Does outcome old new
 
 -- the same, with the value that it stores for C
 abbrev pub AnswersWith : {A : Type 0} → (Outcome → A → A) → Type 0 → Type 0 → Type 0
-    → (Result Reply Refusal → Drawing → Drawing → Type 0) → ℕ → A → A → Kept → Kept → Type 0
+    → (Result Reply Refusal → Drawing → Drawing → Type 0) → ℕ → A → A → Contents → Contents → Type 0
 AnswersWith after IsKnown IsText IsSmall Does status before later old new =
     (outcome : Outcome) × (status ≡ status_of outcome) × (later ≡ after outcome before)
     × Makes IsKnown IsText IsSmall Does outcome old new
 
-abbrev pub IsOpened : SettingsRef → Kept → Type 0
+abbrev pub IsOpened : SettingsRef → Contents → Type 0
 IsOpened given None = ⊥
 IsOpened given (Some new) =
     (timer : Timer) × (timer_of given ≡ Some timer) × (seen_tree new ≡ new_tree_seen given timer)
@@ -73,7 +73,7 @@ opening_status Starved = 4
 
 -- A tree is made. Or nothing has changed: a tree exists already, the settings have another size or
 -- are invalid, or memory ran out.
-abbrev pub Opens : SettingsRef → Opening → Kept → Kept → Type 0
+abbrev pub Opens : SettingsRef → Opening → Contents → Contents → Type 0
 Opens given Opened old new = (old ≡ None) × CanOpen given × IsOpened given new
 Opens given There old new = (old ≢ None) × (new ≡ old)
 Opens given OtherSize old new = (old ≡ None) × (given.size ≢ 56) × (new ≡ None)
@@ -81,7 +81,7 @@ Opens given Unknown old new =
     (old ≡ None) × (given.size ≡ 56) × (CanOpen given → ⊥) × (new ≡ None)
 Opens given Starved old new = (old ≡ None) × CanOpen given × (new ≡ None)
 
-abbrev pub AnswersOpening : SettingsRef → ℕ → Kept → Kept → Type 0
+abbrev pub AnswersOpening : SettingsRef → ℕ → Contents → Contents → Type 0
 AnswersOpening given status old new =
     (opening : Opening) × (status ≡ opening_status opening) × Opens given opening old new
 
@@ -98,12 +98,12 @@ IsWritten text count before after =
     IsCopied text count before after ⊎ ((count ≡ 0) × (after ≡ before))
 
 -- the text of the last call is copied; the tree stays
-abbrev pub Copies : ℕ → List ℕ → List ℕ → Kept → Kept → Type 0
+abbrev pub Copies : ℕ → List ℕ → List ℕ → Contents → Contents → Type 0
 Copies count before after None new = (count ≡ 0) × (after ≡ before) × (new ≡ None)
 Copies count before after (Some old) new =
     IsCopied old.layered.layer.writer.bytes count before after × (new ≡ Some old)
 
 -- the id of the innermost entered span that is live, or 0; the tree stays
-abbrev pub IsCurrent : ℕ → Kept → Kept → Type 0
+abbrev pub IsCurrent : ℕ → Contents → Contents → Type 0
 IsCurrent id None new = (id ≡ 0) × (new ≡ None)
 IsCurrent id (Some old) new = (id ≡ current_id old) × (new ≡ Some old)

@@ -8,17 +8,17 @@ use Rattle.std.specs.Box.Ownership.{box_owns}
 use Rattle.std.specs.Coded.{Coded, coded_option}
 use Rattle.tracing_tree_c.specs.contracts.drawing.Drawing.{the_row}
 
-abbrev pub Kept : Type 0
-Kept = Option the_row.Denot
+abbrev pub Contents : Type 0
+Contents = Option the_row.Denot
 
-abbrev pub kept_coded : Coded Kept
-kept_coded = coded_option the_row.coded
+abbrev pub contents_coded : Coded Contents
+contents_coded = coded_option the_row.coded
 
 -- the right to free a block that was allocated for a type, which is equal for each `Global`
 abbrev pub token : Ty → Ptr → Fml
 token ty at = ghosts.dealloc_token (record { memory = record { seal = tt } }) ty at
 
 -- the drawing at a pointer, with the right to free it
-abbrev pub owned : Ptr → Kept → Fml
+abbrev pub owned : Ptr → Contents → Fml
 owned at None = ftrue
 owned at (Some value) = box_owns token the_row at value

@@ -10,7 +10,7 @@ use Rattle.tracing_tree_layer.specs.declared.call.Call.{Call}
 use Rattle.tracing_tree_layer.specs.declared.call.Reply.{Reply}
 use Rattle.tracing_tree_layer.specs.declared.call.Reply.TheVariants.{Done}
 use Rattle.tracing_tree_c.specs.Entered.{innermost, is_among, without_last}
-use Rattle.tracing_tree_c.specs.Owned.{Kept}
+use Rattle.tracing_tree_c.specs.Owned.{Contents}
 use Rattle.tracing_tree_c.specs.Timers.{tree_timer}
 use Rattle.tracing_tree_c.specs.declared.foreign.TimeRef.{TimeRef}
 use Rattle.tracing_tree_c.specs.declared.foreign.Unreadable.{Unreadable}
@@ -110,7 +110,7 @@ Exits id answer old new =
 -- The outcome of what was read, or not: a missing tree stays missing, and a tree that exists
 -- changes only as what was read says. If nothing could be read, its last text is removed.
 abbrev pub Performs : {T : Type 0} → (T → Result Reply Refusal → Drawing → Drawing → Type 0)
-    → Result T Unreadable → Outcome → Kept → Kept → Type 0
+    → Result T Unreadable → Outcome → Contents → Contents → Type 0
 Performs Does read outcome None new = (outcome ≡ Missing) × (new ≡ None)
 Performs Does (Ok act) outcome (Some old) new =
     (answer : Result Reply Refusal) × (left : Drawing) × (outcome ≡ Answered answer)
@@ -120,7 +120,7 @@ Performs Does (Err fault) outcome (Some old) new =
 
 -- the outcome of an act that C passes
 abbrev pub Makes : Type 0 → Type 0 → Type 0 → (Result Reply Refusal → Drawing → Drawing → Type 0)
-    → Outcome → Kept → Kept → Type 0
+    → Outcome → Contents → Contents → Type 0
 Makes IsKnown IsText IsSmall Does Missing old new = (old ≡ None) × (new ≡ None)
 Makes IsKnown IsText IsSmall Does (NotRead fault) None new = ⊥
 Makes IsKnown IsText IsSmall Does (NotRead Unknown) (Some old) new = (IsKnown → ⊥)

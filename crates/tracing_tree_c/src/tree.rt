@@ -4,7 +4,7 @@ ghost use Rattle.std.specs.Prelude.{◌≡◌, ◌<◌, [], Some, None, option_m
 ghost use Rattle.std.specs.Option.{is_some};
 ghost use Rattle.tracing_tree_time.specs.Clock.{clock_timer};
 ghost use Rattle.tracing_tree_c.specs.Exports.{Opens};
-ghost use Rattle.tracing_tree_c.specs.Owned.{Kept, kept_coded, owned};
+ghost use Rattle.tracing_tree_c.specs.Owned.{Contents, contents_coded, owned};
 ghost use Rattle.tracing_tree_c.specs.Settings.{new_tree_seen};
 ghost use Rattle.tracing_tree_c.specs.Trees.{Performs, seen_tree};
 
@@ -30,7 +30,7 @@ use tracing_tree_time::Clock;
 pub struct Tree {
     inside: *mut u8,
     there: bool,
-    ghost kept: { Kept } by { kept_coded },
+    ghost kept: { Contents } by { contents_coded },
     ghost tied: { there ≡ is_some kept },
 }
 

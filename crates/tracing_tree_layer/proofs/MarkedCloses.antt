@@ -12,7 +12,7 @@ use Rattle.tracing_tree_base.specs.declared.context.Context.{Context}
 use Rattle.tracing_tree_layer.specs.Layered.State.{Turn}
 use Rattle.tracing_tree_layer.specs.Layer.Turns.{turn_of_closes}
 use Rattle.tracing_tree_layer.specs.Layer.Plan.{empty_plan, plan_of_closes}
-use Rattle.tracing_tree_layer.proofs.Reading.Kept.{marked, marked-same}
+use Rattle.tracing_tree_layer.proofs.Reading.Followed.{marked, marked-same}
 use Rattle.tracing_tree_layer.proofs.Marks.{span_at-marked, path_of-marked}
 use Rattle.tracing_tree_layer.proofs.Plans.{turn-closes}
 

@@ -18,7 +18,7 @@ use Rattle.tracing_tree_layer.specs.Layer.Turns.{block_of, span_row, parent_rows
 use Rattle.tracing_tree_layer.specs.Layer.CloseRetrace.{retraces_before_close}
 use Rattle.tracing_tree_spans.proofs.RegistryLaws.{find-same}
 use Rattle.tracing_tree_layer.proofs.Reading.Changes.{path_of-same, path_of_any-same}
-use Rattle.tracing_tree_layer.proofs.Reading.Kept.{marked, marked-same, printed-marked, mark_printed-all}
+use Rattle.tracing_tree_layer.proofs.Reading.Followed.{marked, marked-same, printed-marked, mark_printed-all}
 
 -- ---- marks together
 

@@ -24,7 +24,7 @@ use Rattle.tracing_tree_layer.specs.Layer.CloseRetrace.{retraces_before_close}
 use Rattle.tracing_tree_layer.specs.Layer.Plan.{fresh_mode, PlanView, empty_plan, row_of_planned, rows_of_planned, turn_of_plan, marked_by, planned_row, planned_parent, planned_fresh, planned_fresh_rows, retraced_plan, plan_of_new, plan_before_event, closed_plan, plan_of_close, plan_of_closes}
 use Rattle.tracing_tree_layer.specs.declared.layer.plan.PlannedRow.{PlannedRow}
 use Rattle.tracing_tree_layer.proofs.Marks.{mark_all-none, mark_all-append, parent_of-marked, fresh_ids-marked, span_row-marked, parent_rows-marked}
-use Rattle.tracing_tree_layer.proofs.Reading.Kept.{mark_printed-all}
+use Rattle.tracing_tree_layer.proofs.Reading.Followed.{mark_printed-all}
 use Rattle.tracing_tree_layer.proofs.PathPairs.{drop-next}
 
 module _ (settings : Settings) (context : Context) (forest : Forest) where

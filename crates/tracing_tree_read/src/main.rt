@@ -23,8 +23,8 @@ const NO_MEMORY: RowFault = RowFault {
 };
 
 fn main(rt: HostRuntime) -> ExitCode {
-    let words = match words(&rt) {
-        Ok(words) => words,
+    let args = match args(&rt) {
+        Ok(args) => args,
         Err(error) if error.kind() == io::ErrorKind::OutOfMemory => return end(
             &rt,
             Err(NO_MEMORY),
@@ -32,7 +32,7 @@ fn main(rt: HostRuntime) -> ExitCode {
         ),
         Err(_) => return refuse(&rt),
     };
-    match amount(rt.alloc(), words.as_slice()) {
+    match amount(rt.alloc(), args.as_slice()) {
         Ok(amount) => read(&rt, amount),
         Err(error) if error.kind() == ErrorKind::OutOfMemory => end(&rt, Err(NO_MEMORY), true),
         Err(error) => answer(&rt, &error),
@@ -40,7 +40,7 @@ fn main(rt: HostRuntime) -> ExitCode {
 }
 
 // Returns the arguments of the command line, the program's name first.
-fn words<R: AllocGlobal + Env>(rt: &R) -> io::Result<Vec<String>> {
+fn args<R: AllocGlobal + Env>(rt: &R) -> io::Result<Vec<String>> {
     Ok(std::env::args(rt)?.collect(rt.alloc())?)
 }
 
@@ -51,7 +51,7 @@ fn refuse(rt: &impl Eprint) -> ExitCode {
 }
 
 // Returns the amount in the arguments.
-fn amount(alloc: Global, words: &[String]) -> Result<usize, Error>
+fn amount(alloc: Global, args: &[String]) -> Result<usize, Error>
     ensures { IfOk result (λ n. 2 ≤ n) }
 {
     let amount = Arg::new(alloc, "amount")
@@ -65,7 +65,7 @@ fn amount(alloc: Global, words: &[String]) -> Result<usize, Error>
         .version("0.1.0")
         .about("Reads a drawing and prints a line of JSON for each of its rows")
         .arg(amount)?;
-    let matches = command.try_get_matches_from(words)?;
+    let matches = command.try_get_matches_from(args)?;
     Ok(
         matches
             .get_one::<usize>("amount")

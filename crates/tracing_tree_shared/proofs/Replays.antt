@@ -27,7 +27,7 @@ use Rattle.tracing_tree_layer.proofs.DrawnLaws.{draw-append}
 use Rattle.tracing_tree_layer.proofs.Runs.{run_more}
 use Rattle.tracing_tree_layer.proofs.Reading.Ancestors.{reading-laws}
 use Rattle.tracing_tree_shared.specs.Finish.{IsReplay}
-use Rattle.tracing_tree_shared.specs.Kept.{KeepsReplay, IsAnsweredOrLacks, entries_of, BookView, answer_shown, IsApplied, IsAnsweredOnSome, seen_on_tape}
+use Rattle.tracing_tree_shared.specs.Books.{KeepsReplay, IsAnsweredOrLacks, entries_of, BookView, answer_shown, IsApplied, IsAnsweredOnSome, seen_on_tape}
 use Rattle.tracing_tree_shared.specs.declared.draft.Refused as Answers
 use Rattle.tracing_tree_output.specs.Outputs.{TapeView}
 use Rattle.tracing_tree_time.specs.declared.timer.FormatTime.{Ghosts as FormatTime}

@@ -9,7 +9,7 @@ use Rattle.tracing_tree_layer.specs.declared.call.Call.{Call}
 use Rattle.tracing_tree_layer.specs.declared.call.Reply.{Reply}
 use Rattle.tracing_tree_shared.specs.Drafts.{SharedView}
 use Rattle.tracing_tree_shared.specs.History.{Slips}
-use Rattle.tracing_tree_shared.specs.Kept.{IsAnsweredOnSome, answer_given}
+use Rattle.tracing_tree_shared.specs.Books.{IsAnsweredOnSome, answer_given}
 use Rattle.tracing_tree_shared.specs.Streamed.{IsStreamedOnSome, StreamingView, answer_numbered}
 use Rattle.tracing_tree_shared.specs.declared.draft.Refused.{Refused}
 use Rattle.tracing_tree_shared.specs.declared.streaming.Numbered.{Numbered}

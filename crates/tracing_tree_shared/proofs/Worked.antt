@@ -18,7 +18,7 @@ use Rattle.tracing_tree_layer.proofs.WorkedCalls.{lined, outside, made, informed
 use Rattle.tracing_tree_layer.proofs.Reading.Ancestors.{reading-laws}
 use Rattle.tracing_tree_shared.specs.History.{Entry, IsKept, Slip, IsLateIn, calls_in}
 use Rattle.tracing_tree_shared.specs.Finish.{IsReplay}
-use Rattle.tracing_tree_shared.specs.Kept.{IsAnsweredOrLacks, seen_on_tape}
+use Rattle.tracing_tree_shared.specs.Books.{IsAnsweredOrLacks, seen_on_tape}
 
 -- a root that was made and closed
 abbrev pub short_history : List Entry

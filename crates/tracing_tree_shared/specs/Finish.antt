@@ -11,7 +11,7 @@ use Rattle.tracing_tree_layer.specs.contracts.call.CallPartialEq.TheImpl.{ghosts
 use Rattle.tracing_tree_layer.specs.contracts.call.ReplyPartialEq.TheImpl.{ghosts as reply}
 use Rattle.tracing_tree_shared.specs.History.{Entry, Slip, Slips, IsKept, IsFirstStrange, IsOneHistory, calls_in}
 use Rattle.tracing_tree_shared.specs.Drafts.{SharedView}
-use Rattle.tracing_tree_shared.specs.Kept.{BookView}
+use Rattle.tracing_tree_shared.specs.Books.{BookView}
 use Rattle.tracing_tree_shared.specs.declared.finish.Finished.{Finished}
 use Rattle.tracing_tree_shared.specs.declared.finish.FinishFault.{FinishFault}
 use Rattle.tracing_tree_shared.specs.declared.finish.FinishFault.TheVariants.{MissingPass, Stranger}

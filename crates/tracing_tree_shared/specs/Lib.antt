@@ -1,5 +1,5 @@
 pub mod History
-pub mod Kept
+pub mod Books
 pub mod Drafts
 pub mod Finish
 pub mod Amounts

@@ -6,7 +6,7 @@ use Rattle.tracing_tree_time.specs.declared.timer.FormatTime.{Ghosts as FormatTi
 use Rattle.tracing_tree_layer.specs.Layer.Layers.{LayeredView, seen, Changes}
 use Rattle.tracing_tree_layer.specs.declared.call.Call.{Call}
 use Rattle.tracing_tree_layer.specs.declared.call.Reply.{Reply}
-use Rattle.tracing_tree_shared.specs.Kept.{IsAnsweredOrLacks}
+use Rattle.tracing_tree_shared.specs.Books.{IsAnsweredOrLacks}
 use Rattle.tracing_tree_shared.specs.declared.draft.Refused.{Refused}
 use Rattle.tracing_tree_shared.specs.declared.streaming.Numbered.{Numbered}
 

@@ -9,7 +9,7 @@ use Rattle.tracing_tree_layer.specs.declared.call.Call.{Call}
 use Rattle.tracing_tree_layer.specs.declared.call.Reply.{Reply}
 use Rattle.tracing_tree_shared.specs.Drafts.{SharedView}
 use Rattle.tracing_tree_shared.specs.History.{Slips}
-use Rattle.tracing_tree_shared.specs.Kept.{IsAnsweredOnSome, IsAnsweredOrLacks}
+use Rattle.tracing_tree_shared.specs.Books.{IsAnsweredOnSome, IsAnsweredOrLacks}
 use Rattle.tracing_tree_shared.specs.Streamed.{StreamingView}
 
 -- a thread's receiver over a layer that keeps the history: the layer, and the receipts of the

@@ -1,7 +1,7 @@
 //! A layer with the history of its calls, which is the value behind the lock.
 
 ghost use Rattle.std.specs.Prelude.{◌≡◌, ◌++◌, ◌∷◌, [], None, false, length, IfErr};
-ghost use Rattle.tracing_tree_shared.specs.Kept.{KeepsReplay, seen_on_tape, IsApplied};
+ghost use Rattle.tracing_tree_shared.specs.Books.{KeepsReplay, seen_on_tape, IsApplied};
 
 use crate::draft::{Draft, Refused};
 use std::alloc::Global;
@@ -65,7 +65,7 @@ pub struct Book<FT: FormatTime> {
 
 impl<FT: FormatTime> Model for Book<FT> {
     ghost use Rattle.tracing_tree_output.specs.Outputs.{TapeView};
-    ghost use Rattle.tracing_tree_shared.specs.Kept.{BookView, KeepsReplay, seen_on_tape};
+    ghost use Rattle.tracing_tree_shared.specs.Books.{BookView, KeepsReplay, seen_on_tape};
 
     ghost Value = { BookView TapeView FT };
 

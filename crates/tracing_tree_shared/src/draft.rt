@@ -3,7 +3,7 @@
 ghost use Rattle.std.specs.Prelude.{◌≡◌, IfOk, IfSome, false, option_map};
 ghost use Rattle.tracing_tree_layer.specs.Layer.Layers.{seen, Changes};
 ghost use Rattle.tracing_tree_shared.specs.Drafts.{IsTailOf, tail_under, tail_text};
-ghost use Rattle.tracing_tree_shared.specs.Kept.{IsAnsweredOrLacks};
+ghost use Rattle.tracing_tree_shared.specs.Books.{IsAnsweredOrLacks};
 
 use std::alloc::{AllocError, Global};
 use std::boxed::Box;

@@ -2,7 +2,7 @@
 
 ghost use Rattle.std.specs.Prelude.{◌≡◌, ◌⊎◌, Err, ◌+◌, ◌*◌, ◌<◌, ◌≤◌, ℕ, [], ◌∷◌, ◌++◌, false, None, All, length, IfOk, OnOk, OnErr, IfErr, vec_len, sum_by};
 ghost use Rattle.tracing_tree_shared.specs.Drafts.{tail_under};
-ghost use Rattle.tracing_tree_shared.specs.Kept.{IsApplied, IsAnsweredOnSome, answer_given};
+ghost use Rattle.tracing_tree_shared.specs.Books.{IsApplied, IsAnsweredOnSome, answer_given};
 ghost use Rattle.tracing_tree_shared.specs.Finish.{IsFinishAnswer};
 ghost use Rattle.tracing_tree_shared.specs.Amounts.{full_amount, settings_code};
 

@@ -10,7 +10,7 @@ use Rattle.tracing_tree_spans.specs.Registry.Ids.{same_id}
 use Rattle.tracing_tree_spans.specs.Registry.Spans.{Span, KeptSpan}
 use Rattle.tracing_tree_spans.specs.Registry.Forest.{has_id, is_child_of, children_of, path_of, path_of_any, goes_after, closing_of}
 use Rattle.tracing_tree_spans.specs.Registry.Registered.{IsRising, IsKept, alone, going_after, lacks_others}
-use Rattle.tracing_tree_spans.specs.Registry.Kept.{kept_at, spans_of, CountsChildren}
+use Rattle.tracing_tree_spans.specs.Registry.Nodes.{node_at, spans_of, CountsChildren}
 use Rattle.tracing_tree_base.specs.declared.context.Id.{Id}
 use Rattle.tracing_tree_spans.proofs.ForestLaws.{same_id-eq}
 use Rattle.tracing_tree_spans.proofs.PathLaws.{path_of-step}
@@ -124,11 +124,11 @@ pub record HasClosed (spans : List Span) (i : Id) (whole count : ℕ) (above : O
 
 -- what is known of a kept span
 pub record IsKeptAt (nodes : List KeptSpan) (i : Id) (node : KeptSpan) : Type 0 where
-  pub here : kept_at nodes i ≡ Some node
+  pub here : node_at nodes i ≡ Some node
   pub found : find (has_id i) (spans_of nodes) ≡ Some node.span
   pub count : node.children ≡ length (children_of (alone (spans_of nodes)) i)
 
-pub kept-found : (nodes : List KeptSpan) (i : Id) (node : KeptSpan) → CountsChildren nodes → kept_at nodes i ≡ Some node → IsKeptAt nodes i node
+pub kept-found : (nodes : List KeptSpan) (i : Id) (node : KeptSpan) → CountsChildren nodes → node_at nodes i ≡ Some node → IsKeptAt nodes i node
 kept-found nodes i node counts here = record {
   here = here;
   found = found-span nodes i ∙ ap (λ o. option_map (λ (n : KeptSpan). n.span) o) here;
@@ -265,7 +265,7 @@ pub rest-root : (spans : List Span) (before : Id) (o : Option Id) → o ≡ None
 rest-root spans before o e = ap (λ p. going_after (alone spans) (Some before) (way_up (alone spans) p)) e
 
 -- it stops at an id that isn't live
-pub rest-missing : (nodes : List KeptSpan) (before a : Id) (o : Option Id) → IsKept (spans_of nodes) None → kept_at nodes a ≡ None → o ≡ Some a →
+pub rest-missing : (nodes : List KeptSpan) (before a : Id) (o : Option Id) → IsKept (spans_of nodes) None → node_at nodes a ≡ None → o ≡ Some a →
     going_after (alone (spans_of nodes)) (Some before) (way_up (alone (spans_of nodes)) o) ≡ []
 rest-missing nodes before a o kept none e =
     let gone : find (has_id a) (spans_of nodes) ≡ None = found-span nodes a ∙ ap (λ o. option_map (λ (n : KeptSpan). n.span) o) none in

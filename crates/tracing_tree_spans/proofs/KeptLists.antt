@@ -7,7 +7,7 @@ use Rattle.std.proofs.lemmas.Option.{same_Some}
 use Rattle.tracing_tree_spans.specs.Registry.Ids.{id_of, same_id}
 use Rattle.tracing_tree_spans.specs.Registry.Spans.{Span, KeptSpan, child_more, child_less}
 use Rattle.tracing_tree_spans.specs.Registry.Forest.{has_id}
-use Rattle.tracing_tree_spans.specs.Registry.Kept.{keeps_id, kept_at, spans_of, change_kept, leave_out, with_child}
+use Rattle.tracing_tree_spans.specs.Registry.Nodes.{keeps_id, node_at, spans_of, change_node, leave_out, with_child}
 use Rattle.tracing_tree_base.specs.declared.context.Id.{Id}
 use Rattle.tracing_tree_spans.proofs.RegistryLaws.{changed, without}
 
@@ -20,27 +20,27 @@ find-map u p same (x ∷ xs) =
     ∙ elim (p x) as (λ b. (if b then Some (u x) else option_map u (find p xs)) ≡ option_map u (if b then Some x else find p xs)) [ true ↦ refl | false ↦ refl ]
 
 -- a span is found if it is kept
-pub found-span : (nodes : List KeptSpan) (i : Id) → find (has_id i) (spans_of nodes) ≡ option_map (λ node. node.span) (kept_at nodes i)
+pub found-span : (nodes : List KeptSpan) (i : Id) → find (has_id i) (spans_of nodes) ≡ option_map (λ node. node.span) (node_at nodes i)
 found-span [] i = refl
 found-span (x ∷ nodes) i =
     ap (λ o. if keeps_id i x then Some x.span else o) (found-span nodes i)
-    ∙ elim (keeps_id i x) as (λ b. (if b then Some x.span else option_map (λ (node : KeptSpan). node.span) (kept_at nodes i))
-    ≡ option_map (λ (node : KeptSpan). node.span) (if b then Some x else kept_at nodes i)) [ true ↦ refl | false ↦ refl ]
+    ∙ elim (keeps_id i x) as (λ b. (if b then Some x.span else option_map (λ (node : KeptSpan). node.span) (node_at nodes i))
+    ≡ option_map (λ (node : KeptSpan). node.span) (if b then Some x else node_at nodes i)) [ true ↦ refl | false ↦ refl ]
 
 -- what is found has the id
-pub kept-id : (nodes : List KeptSpan) (i : Id) (node : KeptSpan) → kept_at nodes i ≡ Some node → node.span.id ≡ i
+pub kept-id : (nodes : List KeptSpan) (i : Id) (node : KeptSpan) → node_at nodes i ≡ Some node → node.span.id ≡ i
 kept-id [] i node h = cc
 kept-id (x ∷ nodes) i node h = by (λ k. kept-id nodes i node k) (keeps_id i x) refl
   where
-    by : (kept_at nodes i ≡ Some node → node.span.id ≡ i) → (b : Bool) → keeps_id i x ≡ b → node.span.id ≡ i
+    by : (node_at nodes i ≡ Some node → node.span.id ≡ i) → (b : Bool) → keeps_id i x ≡ b → node.span.id ≡ i
     by ih true e =
-        let same : x ≡ node = same_Some x node (subst (λ b. (if b then Some x else kept_at nodes i) ≡ Some node) e h) in
+        let same : x ≡ node = same_Some x node (subst (λ b. (if b then Some x else node_at nodes i) ≡ Some node) e h) in
         subst (λ (y : KeptSpan). y.span.id ≡ i) same (ap id_of (eqb-true x.span.id.0 i.0 e))
-    by ih false e = ih (subst (λ b. (if b then Some x else kept_at nodes i) ≡ Some node) e h)
+    by ih false e = ih (subst (λ b. (if b then Some x else node_at nodes i) ≡ Some node) e h)
 
 -- a change of one span that shows in the spans
 pub spans-changed : (change : KeptSpan → KeptSpan) (u : Span → Span) → ((n : KeptSpan) → (change n).span ≡ u n.span) → (i : Id) (nodes : List KeptSpan) →
-    spans_of (change_kept change i nodes) ≡ map (changed u i) (spans_of nodes)
+    spans_of (change_node change i nodes) ≡ map (changed u i) (spans_of nodes)
 spans-changed change u same i [] = refl
 spans-changed change u same i (x ∷ nodes) =
     ap (λ xs. (if keeps_id i x then change x else x).span ∷ xs) (spans-changed change u same i nodes)
@@ -49,7 +49,7 @@ spans-changed change u same i (x ∷ nodes) =
 
 -- a change of one span that doesn't
 pub spans-same : (change : KeptSpan → KeptSpan) → ((n : KeptSpan) → (change n).span ≡ n.span) → (i : Id) (nodes : List KeptSpan) →
-    spans_of (change_kept change i nodes) ≡ spans_of nodes
+    spans_of (change_node change i nodes) ≡ spans_of nodes
 spans-same change same i [] = refl
 spans-same change same i (x ∷ nodes) =
     ap (λ xs. (if keeps_id i x then change x else x).span ∷ xs) (spans-same change same i nodes)
@@ -72,30 +72,30 @@ spans-left i (x ∷ nodes) =
 
 -- what is found after a change was there before
 pub found-before : (u : KeptSpan → KeptSpan) → ((n : KeptSpan) → (u n).span.id ≡ n.span.id) → (nodes : List KeptSpan) (j : Id) (node : KeptSpan) →
-    kept_at (map u nodes) j ≡ Some node → (m : KeptSpan) × (kept_at nodes j ≡ Some m) × (u m ≡ node)
+    node_at (map u nodes) j ≡ Some node → (m : KeptSpan) × (node_at nodes j ≡ Some m) × (u m ≡ node)
 found-before u ids nodes j node h =
-    by (kept_at nodes j) refl (sym (find-map u (keeps_id j) (λ n. ap (λ (k : Id). same_id k j) (ids n)) nodes) ∙ h)
+    by (node_at nodes j) refl (sym (find-map u (keeps_id j) (λ n. ap (λ (k : Id). same_id k j) (ids n)) nodes) ∙ h)
   where
-    by : (o : Option KeptSpan) → kept_at nodes j ≡ o → option_map u o ≡ Some node → (m : KeptSpan) × (kept_at nodes j ≡ Some m) × (u m ≡ node)
+    by : (o : Option KeptSpan) → node_at nodes j ≡ o → option_map u o ≡ Some node → (m : KeptSpan) × (node_at nodes j ≡ Some m) × (u m ≡ node)
     by None e g = absurd cc
     by (Some m) e g = (m, e, same_Some (u m) node g)
 
 -- what is found without a span is another, and was there
-pub found-left : (i : Id) (nodes : List KeptSpan) (j : Id) (node : KeptSpan) → kept_at (leave_out i nodes) j ≡ Some node →
-    (same_id i j ≡ false) × (kept_at nodes j ≡ Some node)
+pub found-left : (i : Id) (nodes : List KeptSpan) (j : Id) (node : KeptSpan) → node_at (leave_out i nodes) j ≡ Some node →
+    (same_id i j ≡ false) × (node_at nodes j ≡ Some node)
 found-left i [] j node h = absurd cc
 found-left i (x ∷ nodes) j node h = by (λ k. found-left i nodes j node k) (keeps_id i x) refl
   where
-    by : (kept_at (leave_out i nodes) j ≡ Some node → (same_id i j ≡ false) × (kept_at nodes j ≡ Some node)) → (b : Bool) → keeps_id i x ≡ b →
-        (same_id i j ≡ false) × (kept_at (x ∷ nodes) j ≡ Some node)
+    by : (node_at (leave_out i nodes) j ≡ Some node → (same_id i j ≡ false) × (node_at nodes j ≡ Some node)) → (b : Bool) → keeps_id i x ≡ b →
+        (same_id i j ≡ false) × (node_at (x ∷ nodes) j ≡ Some node)
     by ih true e =
-        let rest = ih (subst (λ b. kept_at (if not b then x ∷ leave_out i nodes else leave_out i nodes) j ≡ Some node) e h) in
+        let rest = ih (subst (λ b. node_at (if not b then x ∷ leave_out i nodes else leave_out i nodes) j ≡ Some node) e h) in
         let own : x.span.id ≡ i = ap id_of (eqb-true x.span.id.0 i.0 e) in
         let other : keeps_id j x ≡ false = ap (λ (k : Id). same_id k j) own ∙ rest.0 in
         (rest.0, rw other rest.1)
-    by ih false e = first (keeps_id j x) refl (subst (λ b. kept_at (if not b then x ∷ leave_out i nodes else leave_out i nodes) j ≡ Some node) e h)
+    by ih false e = first (keeps_id j x) refl (subst (λ b. node_at (if not b then x ∷ leave_out i nodes else leave_out i nodes) j ≡ Some node) e h)
       where
-        first : (b : Bool) → keeps_id j x ≡ b → kept_at (x ∷ leave_out i nodes) j ≡ Some node → (same_id i j ≡ false) × (kept_at (x ∷ nodes) j ≡ Some node)
+        first : (b : Bool) → keeps_id j x ≡ b → node_at (x ∷ leave_out i nodes) j ≡ Some node → (same_id i j ≡ false) × (node_at (x ∷ nodes) j ≡ Some node)
         first true g k =
             let own : x.span.id ≡ j = ap id_of (eqb-true x.span.id.0 j.0 g) in
             let other : same_id j i ≡ false = ap (λ (l : Id). same_id l i) (sym own) ∙ e in
@@ -108,11 +108,11 @@ times j o = if option_map_or (same_id j) o false then 1 else 0
 
 -- what is found after a child was counted was there before
 pub record IsCounted (nodes : List KeptSpan) (o : Option Id) (j : Id) (node m : KeptSpan) : Type 0 where
-  pub before : kept_at nodes j ≡ Some m
+  pub before : node_at nodes j ≡ Some m
   pub span : node.span ≡ m.span
   pub path : node.path ≡ m.path
 
-pub counted-more : (o : Option Id) (nodes : List KeptSpan) (j : Id) (node : KeptSpan) → kept_at (with_child o nodes) j ≡ Some node →
+pub counted-more : (o : Option Id) (nodes : List KeptSpan) (j : Id) (node : KeptSpan) → node_at (with_child o nodes) j ≡ Some node →
     (m : KeptSpan) × IsCounted nodes o j node m × (node.children ≡ m.children + times j o)
 counted-more None nodes j node h = (node, record { before = h; span = refl; path = refl }, omega arith)
 counted-more (Some p) nodes j node h =
@@ -124,7 +124,7 @@ counted-more (Some p) nodes j node h =
     let here : (if same_id j p then child_more m else m) ≡ node = ap (λ b. if b then child_more m else m) (sym test) ∙ found.2 in
     let r = by m (same_id j p) found.1 here in (m, r.0, r.1)
   where
-    by : (m : KeptSpan) (b : Bool) → kept_at nodes j ≡ Some m → (if b then child_more m else m) ≡ node →
+    by : (m : KeptSpan) (b : Bool) → node_at nodes j ≡ Some m → (if b then child_more m else m) ≡ node →
         IsCounted nodes (Some p) j node m × (node.children ≡ m.children + (if b then 1 else 0))
     by m true found e = (
       record { before = found; span = sym (ap (λ (n : KeptSpan). n.span) e); path = sym (ap (λ (n : KeptSpan). n.path) e) },
@@ -138,9 +138,9 @@ counted-more (Some p) nodes j node h =
 -- the list with one child less counted at this parent
 abbrev pub without_child : Option Id → List KeptSpan → List KeptSpan
 without_child None nodes = nodes
-without_child (Some p) nodes = change_kept child_less p nodes
+without_child (Some p) nodes = change_node child_less p nodes
 
-pub counted-less : (o : Option Id) (nodes : List KeptSpan) (j : Id) (node : KeptSpan) → kept_at (without_child o nodes) j ≡ Some node →
+pub counted-less : (o : Option Id) (nodes : List KeptSpan) (j : Id) (node : KeptSpan) → node_at (without_child o nodes) j ≡ Some node →
     (m : KeptSpan) × IsCounted nodes o j node m × (node.children ≡ m.children - times j o)
 counted-less None nodes j node h = (node, record { before = h; span = refl; path = refl }, omega arith)
 counted-less (Some p) nodes j node h =
@@ -152,7 +152,7 @@ counted-less (Some p) nodes j node h =
     let here : (if same_id j p then child_less m else m) ≡ node = ap (λ b. if b then child_less m else m) (sym test) ∙ found.2 in
     let r = by m (same_id j p) found.1 here in (m, r.0, r.1)
   where
-    by : (m : KeptSpan) (b : Bool) → kept_at nodes j ≡ Some m → (if b then child_less m else m) ≡ node →
+    by : (m : KeptSpan) (b : Bool) → node_at nodes j ≡ Some m → (if b then child_less m else m) ≡ node →
         IsCounted nodes (Some p) j node m × (node.children ≡ m.children - (if b then 1 else 0))
     by m true found e = (
       record { before = found; span = sym (ap (λ (n : KeptSpan). n.span) e); path = sym (ap (λ (n : KeptSpan). n.path) e) },

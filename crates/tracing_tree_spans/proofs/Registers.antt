@@ -14,7 +14,7 @@ use Rattle.std.proofs.lemmas.List.Folds.{find-append}
 use Rattle.tracing_tree_spans.specs.Registry.Spans.{Span, KeptSpan, handle_less}
 use Rattle.tracing_tree_spans.specs.Registry.Forest.{Forest, has_id, is_child_of, span_at, handles_of, unless_live, unless_handle, has_all_handles, any_unless_live, update_span, closing_of, children_of, path_of, path_of_any, IsPathIfLive, IsClosing, IsGrownForest}
 use Rattle.tracing_tree_spans.specs.Registry.Registered.{IsKept, IsNewest, alone, going_after, lacks_others}
-use Rattle.tracing_tree_spans.specs.Registry.Kept.{keeps_id, kept_at, spans_of, change_kept, with_child, AreBelow, CountsChildren, IsTied}
+use Rattle.tracing_tree_spans.specs.Registry.Nodes.{keeps_id, node_at, spans_of, change_node, with_child, AreBelow, CountsChildren, IsTied}
 use Rattle.tracing_tree_spans.specs.Registry.Branches.{path_at}
 use Rattle.tracing_tree_base.specs.declared.context.Id.{Id}
 use Rattle.tracing_tree_spans.specs.declared.registry.branches.Branch.{Branch}
@@ -33,7 +33,7 @@ use Rattle.tracing_tree_spans.proofs.Ties.{KeepsTies, tied-change, tied-push}
 
 -- the span of an id, in the form that is kept
 pub seen : (nodes : List KeptSpan) (next : Option Id) (now : Forest) (i : Id) (o : Option KeptSpan) → forest_of (spans_of nodes) next ≡ now →
-    kept_at nodes i ≡ o → span_at now i ≡ option_map (λ n. n.span) o
+    node_at nodes i ≡ o → span_at now i ≡ option_map (λ n. n.span) o
 seen nodes next now i o view h =
     ap (λ (forest : Forest). span_at forest i) (sym view) ∙ found-span nodes i ∙ ap (λ o. option_map (λ (n : KeptSpan). n.span) o) h
 
@@ -68,22 +68,22 @@ some-left now i s here held zero e = let clash = sym (zero-handles now i s here 
 some-left now i s here held (suc n) e = omega arith
 
 pub handle-left : (nodes : List KeptSpan) (next : Option Id) (now : Forest) (i : Id) → forest_of (spans_of nodes) next ≡ now → unless_handle now i ≡ None →
-    IfSome (kept_at nodes i) (λ node. 0 < node.span.handles)
+    IfSome (node_at nodes i) (λ node. 0 < node.span.handles)
 handle-left nodes next now i view held =
-    elim (kept_at nodes i) as (λ o. kept_at nodes i ≡ o → IfSome o (λ node. 0 < node.span.handles)) [
+    elim (node_at nodes i) as (λ o. node_at nodes i ≡ o → IfSome o (λ node. 0 < node.span.handles)) [
       | None ↦ (λ e. tt)
       | Some node ↦ (λ e. some-left now i node.span (seen nodes next now i (Some node) view e) held node.span.handles refl)
     ] refl
 
 -- a kept span is the one of its own id
-pub kept-own : (nodes : List KeptSpan) (i : Id) (node : KeptSpan) → kept_at nodes i ≡ Some node → kept_at nodes node.span.id ≡ Some node
-kept-own nodes i node h = ap (λ j. kept_at nodes j) (kept-id nodes i node h) ∙ h
+pub kept-own : (nodes : List KeptSpan) (i : Id) (node : KeptSpan) → node_at nodes i ≡ Some node → node_at nodes node.span.id ≡ Some node
+kept-own nodes i node h = ap (λ j. node_at nodes j) (kept-id nodes i node h) ∙ h
 
 -- ---- a span changes
 
 -- the registry keeps its invariant
 pub kept-update : (change : KeptSpan → KeptSpan) (u : Span → Span) → KeepsTies change u → (nodes new : List KeptSpan) (next : Option Id) (i : Id) →
-    IsKept (spans_of nodes) next → new ≡ change_kept change i nodes → IsKept (spans_of new) next
+    IsKept (spans_of nodes) next → new ≡ change_node change i nodes → IsKept (spans_of new) next
 kept-update change u h nodes new next i kept e =
     let spans : spans_of new ≡ map (changed u i) (spans_of nodes) = ap spans_of e ∙ spans-changed change u h.spans i nodes in
     subst (λ xs. IsKept xs next) (sym spans) (
@@ -93,12 +93,12 @@ kept-update change u h nodes new next i kept e =
     )
 
 pub tied-update : (branches : List Branch) (change : KeptSpan → KeptSpan) (u : Span → Span) → KeepsTies change u → (nodes new : List KeptSpan) (i : Id) →
-    IsTied branches nodes → new ≡ change_kept change i nodes → IsTied branches new
+    IsTied branches nodes → new ≡ change_node change i nodes → IsTied branches new
 tied-update branches change u h nodes new i tied e = subst (IsTied branches) (sym e) (tied-change branches change u h i nodes tied)
 
 -- and its forest is the one with this change
 pub forest-update : (change : KeptSpan → KeptSpan) (u : Span → Span) → ((n : KeptSpan) → (change n).span ≡ u n.span) → (nodes new : List KeptSpan)
-    (next : Option Id) (now : Forest) (i : Id) → forest_of (spans_of nodes) next ≡ now → new ≡ change_kept change i nodes →
+    (next : Option Id) (now : Forest) (i : Id) → forest_of (spans_of nodes) next ≡ now → new ≡ change_node change i nodes →
     forest_of (spans_of new) next ≡ update_span u i now
 forest-update change u same nodes new next now i view e =
     let spans : spans_of new ≡ map (changed u i) (spans_of nodes) = ap spans_of e ∙ spans-changed change u same i nodes in
@@ -162,12 +162,12 @@ part-le p (x ∷ nodes) = by (part-le p nodes) (p x.span)
 
 -- its parent's children can be counted further
 pub child-fits : (nodes new : List KeptSpan) (node : KeptSpan) (p : Id) → CountsChildren nodes → node.children ≡ 0 → new ≡ nodes ++ node ∷ [] →
-    length new < 9_223_372_036_854_775_808 → IfSome (kept_at new p) (λ k. k.children < 18_446_744_073_709_551_615)
+    length new < 9_223_372_036_854_775_808 → IfSome (node_at new p) (λ k. k.children < 18_446_744_073_709_551_615)
 child-fits nodes new node p counts none e few =
     subst (λ o. IfSome o (λ k. k.children < 18_446_744_073_709_551_615))
-    (sym (ap (λ xs. kept_at xs p) e ∙ find-append (keeps_id p) nodes (node ∷ []))) (by (kept_at nodes p) refl)
+    (sym (ap (λ xs. node_at xs p) e ∙ find-append (keeps_id p) nodes (node ∷ []))) (by (node_at nodes p) refl)
   where
-    by : (o : Option KeptSpan) → kept_at nodes p ≡ o → IfSome (option_or o (kept_at (node ∷ []) p)) (λ k. k.children < 18_446_744_073_709_551_615)
+    by : (o : Option KeptSpan) → node_at nodes p ≡ o → IfSome (option_or o (node_at (node ∷ []) p)) (λ k. k.children < 18_446_744_073_709_551_615)
     by (Some k) h =
         let count = counts p k h in
         let most = part-le (is_child_of p) nodes in
@@ -247,27 +247,27 @@ closing-whole nodes next now i j part view same closes =
 -- ---- a change that may fail and change nothing
 
 pub kept-attempt : {X E : Type 0} (change : KeptSpan → KeptSpan) (u : Span → Span) → KeepsTies change u → (r : Result X E) (nodes new : List KeptSpan)
-    (next : Option Id) (i : Id) → IsKept (spans_of nodes) next → OnOk r (new ≡ change_kept change i nodes) → OnErr r (new ≡ nodes) → IsKept (spans_of new) next
+    (next : Option Id) (i : Id) → IsKept (spans_of nodes) next → OnOk r (new ≡ change_node change i nodes) → OnErr r (new ≡ nodes) → IsKept (spans_of new) next
 kept-attempt change u h (Ok x) nodes new next i kept ok err = kept-update change u h nodes new next i kept ok
 kept-attempt change u h (Err e) nodes new next i kept ok err = subst (λ xs. IsKept (spans_of xs) next) (sym err) kept
 
 pub tied-attempt : {X E : Type 0} (branches : List Branch) (change : KeptSpan → KeptSpan) (u : Span → Span) → KeepsTies change u → (r : Result X E) (nodes new : List KeptSpan)
-    (i : Id) → IsTied branches nodes → OnOk r (new ≡ change_kept change i nodes) → OnErr r (new ≡ nodes) → IsTied branches new
+    (i : Id) → IsTied branches nodes → OnOk r (new ≡ change_node change i nodes) → OnErr r (new ≡ nodes) → IsTied branches new
 tied-attempt branches change u h (Ok x) nodes new i tied ok err = tied-update branches change u h nodes new i tied ok
 tied-attempt branches change u h (Err e) nodes new i tied ok err = subst (IsTied branches) (sym err) tied
 
 pub forest-attempt : {X E : Type 0} (change : KeptSpan → KeptSpan) (u : Span → Span) → ((n : KeptSpan) → (change n).span ≡ u n.span) → (r : Result X E)
     (nodes new : List KeptSpan) (next : Option Id) (now : Forest) (i : Id) → forest_of (spans_of nodes) next ≡ now →
-    OnOk r (new ≡ change_kept change i nodes) → OnOk r (forest_of (spans_of new) next ≡ update_span u i now)
+    OnOk r (new ≡ change_node change i nodes) → OnOk r (forest_of (spans_of new) next ≡ update_span u i now)
 forest-attempt change u same (Ok x) nodes new next now i view ok = forest-update change u same nodes new next now i view ok
 forest-attempt change u same (Err e) nodes new next now i view ok = tt
 
 pub live-error : {X E : Type 0} (r : Result X E) (nodes : List KeptSpan) (next : Option Id) (now : Forest) (i : Id) → forest_of (spans_of nodes) next ≡ now →
-    OnErr r (kept_at nodes i ≡ None → ⊥) → OnErr r (span_at now i ≡ None → ⊥)
+    OnErr r (node_at nodes i ≡ None → ⊥) → OnErr r (span_at now i ≡ None → ⊥)
 live-error (Ok x) nodes next now i view h = tt
-live-error (Err e) nodes next now i view h = λ none. by (kept_at nodes i) refl none
+live-error (Err e) nodes next now i view h = λ none. by (node_at nodes i) refl none
   where
-    by : (o : Option KeptSpan) → kept_at nodes i ≡ o → span_at now i ≡ None → ⊥
+    by : (o : Option KeptSpan) → node_at nodes i ≡ o → span_at now i ≡ None → ⊥
     by None g none = h g
     by (Some k) g none = let found : Some k.span ≡ None = sym (seen nodes next now i (Some k) view g) ∙ none in cc
 
@@ -279,14 +279,14 @@ error-live (Err e) now i s h = λ none. (let found : Some s ≡ None = sym h ∙
 -- ---- paths
 
 -- the stored path of a span is its path
-pub stored-path : (branches : List Branch) (nodes : List KeptSpan) → IsTied branches nodes → (i : Id) (node : KeptSpan) → kept_at nodes i ≡ Some node →
+pub stored-path : (branches : List Branch) (nodes : List KeptSpan) → IsTied branches nodes → (i : Id) (node : KeptSpan) → node_at nodes i ≡ Some node →
     (path : SpanPath) → path ≡ node.path → (slice : List Id) → ((ids : List Id) → path_at branches path ≡ Some ids → slice ≡ ids) →
     slice ≡ path_of (alone (spans_of nodes)) i
 stored-path branches nodes tied i node here path same slice reads =
     reads (path_of (alone (spans_of nodes)) i) (ap (path_at branches) same ∙ tied.paths i node here)
 
 pub stored-whole : (branches : List Branch) (nodes : List KeptSpan) (next : Option Id) (now : Forest) → forest_of (spans_of nodes) next ≡ now → IsTied branches nodes →
-    (i : Id) (node : KeptSpan) → kept_at nodes i ≡ Some node → (path : SpanPath) → path ≡ node.path → (slice : List Id) →
+    (i : Id) (node : KeptSpan) → node_at nodes i ≡ Some node → (path : SpanPath) → path ≡ node.path → (slice : List Id) →
     ((ids : List Id) → path_at branches path ≡ Some ids → slice ≡ ids) → slice ≡ path_of now i
 stored-whole branches nodes next now view tied i node here path same slice reads =
     stored-path branches nodes tied i node here path same slice reads ∙ ap (λ (forest : Forest). path_of forest i) view
@@ -311,7 +311,7 @@ if-turned now formed i (Err e) h = tt
 
 -- an id that is not found is missing
 pub missing-is : (nodes : List KeptSpan) (o : Option Id) (i : Id) (r : Option (Bor KeptSpan)) (b : Bool) → o ≡ Some i →
-    option_copied r ≡ kept_at nodes i → is_some r ≡ not b → then_some b i ≡ any_unless_live (alone (spans_of nodes)) o
+    option_copied r ≡ node_at nodes i → is_some r ≡ not b → then_some b i ≡ any_unless_live (alone (spans_of nodes)) o
 missing-is nodes o i r b e found test =
     ap (λ c. then_some c i) (turned b ∙ ap (λ c. not c) (sym test ∙ copied r ∙ ap (λ (p : Option KeptSpan). is_some p) found ∙ kept))
     ∙ sym (ap (any_unless_live (alone (spans_of nodes))) e)
@@ -328,8 +328,8 @@ missing-is nodes o i r b e found test =
     mapped None = refl
     mapped (Some x) = refl
 
-    kept : is_some (kept_at nodes i) ≡ is_some (find (has_id i) (spans_of nodes))
-    kept = mapped (kept_at nodes i) ∙ ap (λ (p : Option Span). is_some p) (sym (found-span nodes i))
+    kept : is_some (node_at nodes i) ≡ is_some (find (has_id i) (spans_of nodes))
+    kept = mapped (node_at nodes i) ∙ ap (λ (p : Option Span). is_some p) (sym (found-span nodes i))
 
 -- ---- the list of what closes
 

@@ -11,7 +11,7 @@ use Rattle.std.proofs.lemmas.List.{map-append, append-nil, get_or_read, set_spli
 use Rattle.std.proofs.lemmas.Option.{slice_get-get_or, slice_get_within, slice_get_read, same_Some}
 use Rattle.tracing_tree_spans.specs.Registry.Ids.{id_of, same_id}
 use Rattle.tracing_tree_spans.specs.Registry.Spans.{KeptSpan}
-use Rattle.tracing_tree_spans.specs.Registry.Kept.{keeps_id, kept_at, change_kept, leave_out, AreBelow}
+use Rattle.tracing_tree_spans.specs.Registry.Nodes.{keeps_id, node_at, change_node, leave_out, AreBelow}
 use Rattle.tracing_tree_spans.specs.Registry.Slots.{slot_id, slot_node, is_gone, slot_has, present, slot_ids, AreRising, ends_in_gap, IsLaidOut}
 use Rattle.tracing_tree_base.specs.declared.context.Id.{Id}
 use Rattle.tracing_tree_spans.specs.declared.registry.slot.Slot.{Slot}
@@ -151,7 +151,7 @@ found_at slots i at rising here = by (slice_get slots at) refl
 -- ---- the spans that are stored at a place
 
 -- above an id no span has it
-above-none : (i : Id) (slots : List Slot) → ids_above i.0 (slot_ids slots) ≡ true → kept_at (present slots) i ≡ None
+above-none : (i : Id) (slots : List Slot) → ids_above i.0 (slot_ids slots) ≡ true → node_at (present slots) i ≡ None
 above-none i [] all = refl
 above-none i (Live node ∷ slots) all =
     let parts = and_parts (nat_lt i.0 node.span.id.0) (ids_above i.0 (slot_ids slots)) all in
@@ -160,15 +160,15 @@ above-none i (Live node ∷ slots) all =
 above-none i (Gone j ∷ slots) all = above-none i slots (and_parts (nat_lt i.0 j.0) (ids_above i.0 (slot_ids slots)) all).1
 
 -- a span is found at its place
-pub present-find : (i : Id) (slots : List Slot) → AreRising (slot_ids slots) → kept_at (present slots) i ≡ option_and_then slot_node (find (slot_has i) slots)
+pub present-find : (i : Id) (slots : List Slot) → AreRising (slot_ids slots) → node_at (present slots) i ≡ option_and_then slot_node (find (slot_has i) slots)
 present-find i [] rising = refl
 present-find i (Live node ∷ slots) rising =
-    elim (same_id node.span.id i) as (λ b. (if b then Some node else kept_at (present slots) i)
+    elim (same_id node.span.id i) as (λ b. (if b then Some node else node_at (present slots) i)
     ≡ option_and_then slot_node (if b then Some (Live node) else find (slot_has i) slots)) [ true ↦ refl | false ↦ present-find i slots rising.1 ]
 present-find i (Gone j ∷ slots) rising = by (present-find i slots rising.1) (same_id j i) refl
   where
-    by : kept_at (present slots) i ≡ option_and_then slot_node (find (slot_has i) slots) → (b : Bool) → same_id j i ≡ b →
-        kept_at (present slots) i ≡ option_and_then slot_node (if b then Some (Gone j) else find (slot_has i) slots)
+    by : node_at (present slots) i ≡ option_and_then slot_node (find (slot_has i) slots) → (b : Bool) → same_id j i ≡ b →
+        node_at (present slots) i ≡ option_and_then slot_node (if b then Some (Gone j) else find (slot_has i) slots)
     by ih true e =
         let same : j ≡ i = ap id_of (eqb-true j.0 i.0 e) in
         above-none i slots (subst (λ (k : Id). ids_above k.0 (slot_ids slots) ≡ true) same rising.0)
@@ -176,7 +176,7 @@ present-find i (Gone j ∷ slots) rising = by (present-find i slots rising.1) (s
 
 -- above an id nothing changes
 above-unchanged : (change : KeptSpan → KeptSpan) (i : Id) (slots : List Slot) → ids_above i.0 (slot_ids slots) ≡ true →
-    change_kept change i (present slots) ≡ present slots
+    change_node change i (present slots) ≡ present slots
 above-unchanged change i [] all = refl
 above-unchanged change i (Live node ∷ slots) all =
     let parts = and_parts (nat_lt i.0 node.span.id.0) (ids_above i.0 (slot_ids slots)) all in
@@ -199,12 +199,12 @@ live-same x node h = cc
 
 -- a live span written over its place changes the span of its id
 set-changes : (change : KeptSpan → KeptSpan) (slots : List Slot) (at : ℕ) (node : KeptSpan) → AreRising (slot_ids slots) →
-    slice_get slots at ≡ Some (Live node) → present (set slots at (Live (change node))) ≡ change_kept change node.span.id (present slots)
+    slice_get slots at ≡ Some (Live node) → present (set slots at (Live (change node))) ≡ change_node change node.span.id (present slots)
 set-changes change [] at node rising h = cc
 set-changes change (Live x ∷ slots) zero node rising h =
     let same : x ≡ node = live-same x node h in
     let own : same_id x.span.id x.span.id ≡ true = same-own x.span.id in
-    subst (λ (y : KeptSpan). change y ∷ present slots ≡ change_kept change y.span.id (x ∷ present slots)) same
+    subst (λ (y : KeptSpan). change y ∷ present slots ≡ change_node change y.span.id (x ∷ present slots)) same
     (rw own (ap (λ xs. change x ∷ xs) (sym (above-unchanged change x.span.id slots rising.0))))
 set-changes change (Live x ∷ slots) (suc at) node rising h =
     let low : same_id x.span.id node.span.id ≡ false = lower-not x.span.id node.span.id (above-at x.span.id.0 slots at (Live node) rising.0 h) in
@@ -285,15 +285,15 @@ at-place slice slots i at slot e h here =
 
 -- the span there is the one with the id
 pub kept-there : (slots : List Slot) (now : List KeptSpan) (i : Id) (at live : ℕ) (slot : Slot) → IsLaidOut slots live → present slots ≡ now →
-    IsAt slots i at slot → kept_at now i ≡ slot_node slot
+    IsAt slots i at slot → node_at now i ≡ slot_node slot
 kept-there slots now i at live slot laid view h =
-    ap (λ nodes. kept_at nodes i) (sym view) ∙ present-find i slots laid.rising ∙ ap (λ o. option_and_then slot_node o) h.found
+    ap (λ nodes. node_at nodes i) (sym view) ∙ present-find i slots laid.rising ∙ ap (λ o. option_and_then slot_node o) h.found
 
 -- an id that is not found is not live
 pub kept-nowhere : (slice slots : List Slot) (now : List KeptSpan) (i : Id) (live : ℕ) → IsLaidOut slots live → present slots ≡ now →
-    slice ≡ slots → find (slot_has i) slice ≡ None → kept_at now i ≡ None
+    slice ≡ slots → find (slot_has i) slice ≡ None → node_at now i ≡ None
 kept-nowhere slice slots now i live laid view same none =
-    ap (λ nodes. kept_at nodes i) (sym view) ∙ present-find i slots laid.rising
+    ap (λ nodes. node_at nodes i) (sym view) ∙ present-find i slots laid.rising
     ∙ ap (λ o. option_and_then slot_node o) (ap (λ xs. find (slot_has i) xs) (sym same) ∙ none)
 
 -- the list stays laid out if a live span is overwritten by itself, changed
@@ -308,12 +308,12 @@ laid-write slots i at live node new laid h same = record {
 -- and the span of the id is changed
 pub present-write : (change : KeptSpan → KeptSpan) (slots : List Slot) (now : List KeptSpan) (i : Id) (at live : ℕ) (node new : KeptSpan) →
     IsLaidOut slots live → present slots ≡ now → IsAt slots i at (Live node) → new ≡ change node →
-    present (set slots at (Live new)) ≡ change_kept change i now
+    present (set slots at (Live new)) ≡ change_node change i now
 present-write change slots now i at live node new laid view h e =
-    let changed : present (set slots at (Live (change node))) ≡ change_kept change node.span.id (present slots) =
+    let changed : present (set slots at (Live (change node))) ≡ change_node change node.span.id (present slots) =
     set-changes change slots at node laid.rising h.read in
     ap (λ (n : KeptSpan). present (set slots at (Live n))) e ∙ changed
-    ∙ ap (λ j. change_kept change j (present slots)) h.same ∙ ap (λ nodes. change_kept change i nodes) view
+    ∙ ap (λ j. change_node change j (present slots)) h.same ∙ ap (λ nodes. change_node change i nodes) view
 
 -- the same of a change that may fail and keep the span: the id stays
 pub attempt-id : {X E : Type 0} (change : KeptSpan → KeptSpan) (r : Result X E) (node new : KeptSpan) → (change node).span.id ≡ node.span.id →
@@ -324,28 +324,28 @@ attempt-id change (Err e) node new same ok err = ap (λ (k : KeptSpan). k.span.i
 -- if it doesn't fail, the span of the id is changed
 pub present-attempt : {X E : Type 0} (change : KeptSpan → KeptSpan) (r : Result X E) (slots : List Slot) (now : List KeptSpan) (i : Id)
     (at live : ℕ) (node new : KeptSpan) → IsLaidOut slots live → present slots ≡ now → IsAt slots i at (Live node) →
-    OnOk r (new ≡ change node) → OnOk r (present (set slots at (Live new)) ≡ change_kept change i now)
+    OnOk r (new ≡ change node) → OnOk r (present (set slots at (Live new)) ≡ change_node change i now)
 present-attempt change (Ok x) slots now i at live node new laid view h ok = present-write change slots now i at live node new laid view h ok
 present-attempt change (Err e) slots now i at live node new laid view h ok = tt
 
 -- only a live span's change can fail
-pub live-attempt : {X E : Type 0} (r : Result X E) (now : List KeptSpan) (i : Id) (node : KeptSpan) → kept_at now i ≡ Some node →
-    OnErr r (kept_at now i ≡ None → ⊥)
+pub live-attempt : {X E : Type 0} (r : Result X E) (now : List KeptSpan) (i : Id) (node : KeptSpan) → node_at now i ≡ Some node →
+    OnErr r (node_at now i ≡ None → ⊥)
 live-attempt (Ok x) now i node h = tt
 live-attempt (Err e) now i node h = (λ none. let found : Some node ≡ None = sym h ∙ none in cc)
 
 -- a change of a span that isn't there changes nothing
-pub change-none : (change : KeptSpan → KeptSpan) (i : Id) (nodes : List KeptSpan) → kept_at nodes i ≡ None → nodes ≡ change_kept change i nodes
+pub change-none : (change : KeptSpan → KeptSpan) (i : Id) (nodes : List KeptSpan) → node_at nodes i ≡ None → nodes ≡ change_node change i nodes
 change-none change i [] h = refl
 change-none change i (x ∷ nodes) h = by (λ k. change-none change i nodes k) (keeps_id i x) refl
   where
-    by : (kept_at nodes i ≡ None → nodes ≡ change_kept change i nodes) → (b : Bool) → keeps_id i x ≡ b → x ∷ nodes ≡ change_kept change i (x ∷ nodes)
-    by ih true e = absurd (let g : Some x ≡ None = subst (λ b. (if b then Some x else kept_at nodes i) ≡ None) e h in cc)
-    by ih false e = rw e (ap (λ xs. x ∷ xs) (ih (subst (λ b. (if b then Some x else kept_at nodes i) ≡ None) e h)))
+    by : (node_at nodes i ≡ None → nodes ≡ change_node change i nodes) → (b : Bool) → keeps_id i x ≡ b → x ∷ nodes ≡ change_node change i (x ∷ nodes)
+    by ih true e = absurd (let g : Some x ≡ None = subst (λ b. (if b then Some x else node_at nodes i) ≡ None) e h in cc)
+    by ih false e = rw e (ap (λ xs. x ∷ xs) (ih (subst (λ b. (if b then Some x else node_at nodes i) ≡ None) e h)))
 
 -- and so does one at a gap
 pub present-gap : (change : KeptSpan → KeptSpan) (slots : List Slot) (now : List KeptSpan) (i j : Id) (at live : ℕ) (slot : Slot) →
-    IsLaidOut slots live → present slots ≡ now → IsAt slots i at slot → slot ≡ Gone j → present (set slots at slot) ≡ change_kept change i now
+    IsLaidOut slots live → present slots ≡ now → IsAt slots i at slot → slot ≡ Gone j → present (set slots at slot) ≡ change_node change i now
 present-gap change slots now i j at live slot laid view h gone =
     ap present (set-same slots at slot h.read) ∙ view
     ∙ change-none change i now (kept-there slots now i at live slot laid view h ∙ ap slot_node gone)
@@ -438,13 +438,13 @@ pub gone-counts : (slots : List Slot) (i : Id) (at live : ℕ) (node : KeptSpan)
 gone-counts slots i at live node laid h = set-fewer slots at node i h.read ∙ sym laid.counted
 
 -- removing a span that isn't there changes nothing
-pub leave-none : (i : Id) (nodes : List KeptSpan) → kept_at nodes i ≡ None → nodes ≡ leave_out i nodes
+pub leave-none : (i : Id) (nodes : List KeptSpan) → node_at nodes i ≡ None → nodes ≡ leave_out i nodes
 leave-none i [] h = refl
 leave-none i (x ∷ nodes) h = by (λ k. leave-none i nodes k) (keeps_id i x) refl
   where
-    by : (kept_at nodes i ≡ None → nodes ≡ leave_out i nodes) → (b : Bool) → keeps_id i x ≡ b → x ∷ nodes ≡ leave_out i (x ∷ nodes)
-    by ih true e = absurd (let g : Some x ≡ None = subst (λ b. (if b then Some x else kept_at nodes i) ≡ None) e h in cc)
-    by ih false e = rw e (ap (λ xs. x ∷ xs) (ih (subst (λ b. (if b then Some x else kept_at nodes i) ≡ None) e h)))
+    by : (node_at nodes i ≡ None → nodes ≡ leave_out i nodes) → (b : Bool) → keeps_id i x ≡ b → x ∷ nodes ≡ leave_out i (x ∷ nodes)
+    by ih true e = absurd (let g : Some x ≡ None = subst (λ b. (if b then Some x else node_at nodes i) ≡ None) e h in cc)
+    by ih false e = rw e (ap (λ xs. x ∷ xs) (ih (subst (λ b. (if b then Some x else node_at nodes i) ≡ None) e h)))
 
 -- a gap overwritten by itself changes nothing
 pub gap-again : (slots : List Slot) (i j : Id) (at : ℕ) (slot : Slot) → IsAt slots i at slot → slot ≡ Gone j → set slots at (Gone i) ≡ slots

@@ -13,7 +13,7 @@ use Rattle.tracing_tree_spans.specs.Registry.Ids.{same_id}
 use Rattle.tracing_tree_spans.specs.Registry.Spans.{Span, KeptSpan, child_less}
 use Rattle.tracing_tree_spans.specs.Registry.Forest.{has_id, is_child_of, parent_of, path_of, path_of_any, children_of, IsGrown, IsGrownForest}
 use Rattle.tracing_tree_spans.specs.Registry.Registered.{IsRising, alone}
-use Rattle.tracing_tree_spans.specs.Registry.Kept.{keeps_id, kept_at, spans_of, change_kept, leave_out, with_child, IsTied}
+use Rattle.tracing_tree_spans.specs.Registry.Nodes.{keeps_id, node_at, spans_of, change_node, leave_out, with_child, IsTied}
 use Rattle.tracing_tree_spans.specs.Registry.Branches.{path_at, KeepsPaths, KeepsOthers}
 use Rattle.tracing_tree_base.specs.declared.context.Id.{Id}
 use Rattle.tracing_tree_spans.specs.declared.registry.branches.Branch.{Branch}
@@ -54,7 +54,7 @@ pub path_of-changed : (u : Span → Span) → IsSame u → (spans : List Span) (
 path_of-changed u h spans j = path_of-mapped u h spans None None j
 
 pub tied-change : (branches : List Branch) (change : KeptSpan → KeptSpan) (u : Span → Span) → KeepsTies change u → (i : Id) (nodes : List KeptSpan) → IsTied branches nodes →
-    IsTied branches (change_kept change i nodes)
+    IsTied branches (change_node change i nodes)
 tied-change branches change u h i nodes tied = record { paths = paths; children = children }
   where
     one : KeptSpan → KeptSpan
@@ -72,19 +72,19 @@ tied-change branches change u h i nodes tied = record { paths = paths; children 
     same-children : (n : KeptSpan) → (if keeps_id i n then change n else n).children ≡ n.children
     same-children n = elim (keeps_id i n) as (λ b. (if b then change n else n).children ≡ n.children) [ true ↦ h.children n | false ↦ refl ]
 
-    spans : spans_of (change_kept change i nodes) ≡ map (changed u i) (spans_of nodes)
+    spans : spans_of (change_node change i nodes) ≡ map (changed u i) (spans_of nodes)
     spans = spans-changed change u h.spans i nodes
 
-    paths : (j : Id) (node : KeptSpan) → kept_at (change_kept change i nodes) j ≡ Some node →
-        path_at branches node.path ≡ Some (path_of (alone (spans_of (change_kept change i nodes))) j)
+    paths : (j : Id) (node : KeptSpan) → node_at (change_node change i nodes) j ≡ Some node →
+        path_at branches node.path ≡ Some (path_of (alone (spans_of (change_node change i nodes))) j)
     paths j node e =
         let m = found-before (λ n. if keeps_id i n then change n else n) ids nodes j node e in
         ap (path_at branches) (sym (ap (λ (n : KeptSpan). n.path) m.2) ∙ same-path m.0) ∙ tied.paths j m.0 m.1
         ∙ ap (λ (ids : List Id). Some ids) (sym (path_of-changed (changed u i) (changed-same u i h.same) (spans_of nodes) j)
         ∙ ap (λ xs. path_of (alone xs) j) (sym spans))
 
-    children : (j : Id) (node : KeptSpan) → kept_at (change_kept change i nodes) j ≡ Some node →
-        node.children ≡ length (children_of (alone (spans_of (change_kept change i nodes))) j)
+    children : (j : Id) (node : KeptSpan) → node_at (change_node change i nodes) j ≡ Some node →
+        node.children ≡ length (children_of (alone (spans_of (change_node change i nodes))) j)
     children j node e =
         let m = found-before (λ n. if keeps_id i n then change n else n) ids nodes j node e in
         sym (ap (λ (n : KeptSpan). n.children) m.2) ∙ same-children m.0 ∙ tied.children j m.0 m.1
@@ -102,11 +102,11 @@ tied-kept branches new nodes keeps tied = record {
 
 -- the path of a parent
 pub path-above : (branches : List Branch) (nodes : List KeptSpan) → IsTied branches nodes → (o : Option Id) (node : KeptSpan) →
-    option_and_then (kept_at nodes) o ≡ Some node → path_at branches node.path ≡ Some (path_of_any (alone (spans_of nodes)) o)
+    option_and_then (node_at nodes) o ≡ Some node → path_at branches node.path ≡ Some (path_of_any (alone (spans_of nodes)) o)
 path-above branches nodes tied None node e = absurd cc
 path-above branches nodes tied (Some p) node e = tied.paths p node e
 
-pub no-path-above : (nodes : List KeptSpan) (o : Option Id) → option_and_then (kept_at nodes) o ≡ None → path_of_any (alone (spans_of nodes)) o ≡ []
+pub no-path-above : (nodes : List KeptSpan) (o : Option Id) → option_and_then (node_at nodes) o ≡ None → path_of_any (alone (spans_of nodes)) o ≡ []
 no-path-above nodes None e = refl
 no-path-above nodes (Some p) e =
     let gone : find (has_id p) (spans_of nodes) ≡ None = found-span nodes p ∙ ap (λ o. option_map (λ (node : KeptSpan). node.span) o) e in
@@ -188,20 +188,20 @@ tied-push branches nodes node formed tied new = record {
         let fresh : list_any (has_id node.span.id) (reverse (spans_of nodes)) ≡ false = any-reverse (has_id node.span.id) (spans_of nodes) ∙ new.fresh in
         (ap (λ b. not b) fresh, among node.span.parent new.parent, formed.grown)
 
-    found : (j : Id) (m : KeptSpan) → kept_at (nodes ++ node ∷ []) j ≡ Some m → option_or (kept_at nodes j) (kept_at (node ∷ []) j) ≡ Some m
+    found : (j : Id) (m : KeptSpan) → node_at (nodes ++ node ∷ []) j ≡ Some m → option_or (node_at nodes j) (node_at (node ∷ []) j) ≡ Some m
     found j m e = sym (find-append (keeps_id j) nodes (node ∷ [])) ∙ e
 
-    old : (j : Id) (k : KeptSpan) → kept_at nodes j ≡ Some k → has_id j node.span ≡ false
+    old : (j : Id) (k : KeptSpan) → node_at nodes j ≡ Some k → has_id j node.span ≡ false
     old j k e = old-not (spans_of nodes) node.span j k.span new.fresh (found-span nodes j ∙ ap (λ o. option_map (λ (n : KeptSpan). n.span) o) e)
 
-    own : (j : Id) (m : KeptSpan) → kept_at (node ∷ []) j ≡ Some m → (keeps_id j node ≡ true) × (node ≡ m)
+    own : (j : Id) (m : KeptSpan) → node_at (node ∷ []) j ≡ Some m → (keeps_id j node ≡ true) × (node ≡ m)
     own j m e = by (keeps_id j node) refl
       where
         by : (b : Bool) → keeps_id j node ≡ b → (b ≡ true) × (node ≡ m)
         by true g = (refl, same_Some node m (subst (λ b. (if b then Some node else None) ≡ Some m) g e))
         by false g = absurd (let none : None ≡ Some m = subst (λ b. (if b then Some node else None) ≡ Some m) g e in cc)
 
-    path-by : (j : Id) (m : KeptSpan) (o : Option KeptSpan) → kept_at nodes j ≡ o → option_or o (kept_at (node ∷ []) j) ≡ Some m →
+    path-by : (j : Id) (m : KeptSpan) (o : Option KeptSpan) → node_at nodes j ≡ o → option_or o (node_at (node ∷ []) j) ≡ Some m →
         path_at branches m.path ≡ Some (path_of (alone (spans_of nodes ++ node.span ∷ [])) j)
     path-by j m (Some k) e h =
         let same : k ≡ m = same_Some k m h in
@@ -214,10 +214,10 @@ tied-push branches nodes node formed tied new = record {
         ∙ ap (λ (ids : List Id). Some ids) (ap (λ k. path_of_any (alone (spans_of nodes)) node.span.parent ++ k ∷ []) id
         ∙ sym (path_of-new (spans_of nodes) node.span grown j here.0))
 
-    path : (j : Id) (m : KeptSpan) → kept_at (nodes ++ node ∷ []) j ≡ Some m → path_at branches m.path ≡ Some (path_of (alone (spans_of nodes ++ node.span ∷ [])) j)
-    path j m e = path-by j m (kept_at nodes j) refl (found j m e)
+    path : (j : Id) (m : KeptSpan) → node_at (nodes ++ node ∷ []) j ≡ Some m → path_at branches m.path ≡ Some (path_of (alone (spans_of nodes ++ node.span ∷ [])) j)
+    path j m e = path-by j m (node_at nodes j) refl (found j m e)
 
-    count-by : (j : Id) (m : KeptSpan) (o : Option KeptSpan) → kept_at nodes j ≡ o → option_or o (kept_at (node ∷ []) j) ≡ Some m →
+    count-by : (j : Id) (m : KeptSpan) (o : Option KeptSpan) → node_at nodes j ≡ o → option_or o (node_at (node ∷ []) j) ≡ Some m →
         m.children + times j node.span.parent ≡ length (children_of (alone (spans_of nodes ++ node.span ∷ [])) j)
     count-by j m (Some k) e h =
         let same : k ≡ m = same_Some k m h in
@@ -231,9 +231,9 @@ tied-push branches nodes node formed tied new = record {
         ∙ ap (λ n. n + times j node.span.parent) (sym (children-none (spans_of nodes) j formed fresh))
         ∙ sym (children-more (spans_of nodes) node.span j)
 
-    count : (j : Id) (m : KeptSpan) → kept_at (nodes ++ node ∷ []) j ≡ Some m →
+    count : (j : Id) (m : KeptSpan) → node_at (nodes ++ node ∷ []) j ≡ Some m →
         m.children + times j node.span.parent ≡ length (children_of (alone (spans_of nodes ++ node.span ∷ [])) j)
-    count j m e = count-by j m (kept_at nodes j) refl (found j m e)
+    count j m e = count-by j m (node_at nodes j) refl (found j m e)
 
 -- ---- a span is removed
 
@@ -286,7 +286,7 @@ one-span spans grown i j s t here there e =
     (sym (path_of-step (alone spans) formed i s here) ∙ e ∙ path_of-step (alone spans) formed j t there)
 
 pub tied-remove : (branches less : List Branch) (nodes : List KeptSpan) (i : Id) (node : KeptSpan) → IsGrown (reverse (spans_of nodes)) → IsRising (spans_of nodes) →
-    IsTied branches nodes → KeepsOthers node.path branches less → kept_at nodes i ≡ Some node →
+    IsTied branches nodes → KeepsOthers node.path branches less → node_at nodes i ≡ Some node →
     list_any (is_child_of i) (spans_of nodes) ≡ false → IsTied less (without_child node.span.parent (leave_out i nodes))
 tied-remove branches less nodes i node grown rising tied keeps here childless = record {
   paths = λ j n e. let m = counted-less node.span.parent (leave_out i nodes) j n e in
@@ -305,7 +305,7 @@ tied-remove branches less nodes i node grown rising tied keeps here childless = 
     found : find (has_id i) (spans_of nodes) ≡ Some node.span
     found = found-span nodes i ∙ ap (λ o. option_map (λ (n : KeptSpan). n.span) o) here
 
-    other : (j : Id) (m : KeptSpan) → same_id i j ≡ false → kept_at nodes j ≡ Some m → path_at branches node.path ≡ Some (path_of (alone (spans_of nodes)) j) → ⊥
+    other : (j : Id) (m : KeptSpan) → same_id i j ≡ false → node_at nodes j ≡ Some m → path_at branches node.path ≡ Some (path_of (alone (spans_of nodes)) j) → ⊥
     other j m apart there e =
         let same : i ≡ j = one-span (spans_of nodes) grown i j node.span m.span found (found-span nodes j ∙ ap (λ o. option_map (λ (n : KeptSpan). n.span) o) there)
         (same_Some (path_of (alone (spans_of nodes)) i) (path_of (alone (spans_of nodes)) j) (sym (tied.paths i node here) ∙ e)) in
@@ -316,7 +316,7 @@ tied-remove branches less nodes i node grown rising tied keeps here childless = 
     spans = spans-childless node.span.parent (leave_out i nodes) ∙ spans-left i nodes
 
 -- the parent of the span that the code removes
-pub parent-read : (nodes : List KeptSpan) (i : Id) (o : Option KeptSpan) → kept_at nodes i ≡ o →
+pub parent-read : (nodes : List KeptSpan) (i : Id) (o : Option KeptSpan) → node_at nodes i ≡ o →
     parent_of (alone (spans_of nodes)) i ≡ option_and_then (λ (n : KeptSpan). n.span.parent) o
 parent-read nodes i o here =
     ap (λ s. option_and_then (λ (span : Span). span.parent) s) (found-span nodes i ∙ ap (λ o. option_map (λ (n : KeptSpan). n.span) o) here) ∙ by o
@@ -327,13 +327,13 @@ parent-read nodes i o here =
     by (Some n) = refl
 
 -- an id that isn't live changes nothing
-pub tied-nothing : (branches : List Branch) (nodes new : List KeptSpan) (i : Id) → IsTied branches nodes → kept_at nodes i ≡ None → new ≡ leave_out i nodes → IsTied branches new
+pub tied-nothing : (branches : List Branch) (nodes new : List KeptSpan) (i : Id) → IsTied branches nodes → node_at nodes i ≡ None → new ≡ leave_out i nodes → IsTied branches new
 tied-nothing branches nodes new i tied none e = subst (IsTied branches) (leave-none i nodes none ∙ sym e) tied
 
 -- the parent counts the span that was removed
-pub child-counted : (branches : List Branch) (nodes new : List KeptSpan) (i p : Id) (node : KeptSpan) → IsRising (spans_of nodes) → IsTied branches nodes → kept_at nodes i ≡ Some node →
-    node.span.parent ≡ Some p → new ≡ leave_out i nodes → IfSome (kept_at new p) (λ k. 0 < k.children)
-child-counted branches nodes new i p node rising tied here parent e = by (kept_at new p) refl
+pub child-counted : (branches : List Branch) (nodes new : List KeptSpan) (i p : Id) (node : KeptSpan) → IsRising (spans_of nodes) → IsTied branches nodes → node_at nodes i ≡ Some node →
+    node.span.parent ≡ Some p → new ≡ leave_out i nodes → IfSome (node_at new p) (λ k. 0 < k.children)
+child-counted branches nodes new i p node rising tied here parent e = by (node_at new p) refl
   where
     found : find (has_id i) (spans_of nodes) ≡ Some node.span
     found = found-span nodes i ∙ ap (λ o. option_map (λ (n : KeptSpan). n.span) o) here
@@ -343,33 +343,33 @@ child-counted branches nodes new i p node rising tied here parent e = by (kept_a
         let own : same_id p p ≡ true = grind (arith, nat_tests) in
         ap (times p) parent ∙ ap (λ b. if b then 1 else 0) own
 
-    by : (o : Option KeptSpan) → kept_at new p ≡ o → IfSome o (λ k. 0 < k.children)
+    by : (o : Option KeptSpan) → node_at new p ≡ o → IfSome o (λ k. 0 < k.children)
     by None g = tt
     by (Some k) g =
-        let there = found-left i nodes p k (ap (λ xs. kept_at xs p) (sym e) ∙ g) in
+        let there = found-left i nodes p k (ap (λ xs. node_at xs p) (sym e) ∙ g) in
         let count = tied.children p k there.1 in
         let fewer = children-without i (spans_of nodes) node.span rising found p in
         omega (arith, count, fewer, one)
 
 -- a span is removed that counts at its parent
 pub tied-leaf : (branches less : List Branch) (nodes left new : List KeptSpan) (i p : Id) (node : KeptSpan) → IsGrown (reverse (spans_of nodes)) → IsRising (spans_of nodes) →
-    IsTied branches nodes → KeepsOthers node.path branches less → kept_at nodes i ≡ Some node →
-    list_any (is_child_of i) (spans_of nodes) ≡ false → node.span.parent ≡ Some p → left ≡ leave_out i nodes → new ≡ change_kept child_less p left → IsTied less new
+    IsTied branches nodes → KeepsOthers node.path branches less → node_at nodes i ≡ Some node →
+    list_any (is_child_of i) (spans_of nodes) ≡ false → node.span.parent ≡ Some p → left ≡ leave_out i nodes → new ≡ change_node child_less p left → IsTied less new
 tied-leaf branches less nodes left new i p node grown rising tied keeps here childless parent e e' =
     let whole : new ≡ without_child node.span.parent (leave_out i nodes) =
-    e' ∙ ap (change_kept child_less p) e ∙ ap (λ o. without_child o (leave_out i nodes)) (sym parent) in
+    e' ∙ ap (change_node child_less p) e ∙ ap (λ o. without_child o (leave_out i nodes)) (sym parent) in
     subst (IsTied less) (sym whole) (tied-remove branches less nodes i node grown rising tied keeps here childless)
 
 -- a root is removed
 pub tied-root : (branches less : List Branch) (nodes new : List KeptSpan) (i : Id) (node : KeptSpan) → IsGrown (reverse (spans_of nodes)) → IsRising (spans_of nodes) →
-    IsTied branches nodes → KeepsOthers node.path branches less → kept_at nodes i ≡ Some node →
+    IsTied branches nodes → KeepsOthers node.path branches less → node_at nodes i ≡ Some node →
     list_any (is_child_of i) (spans_of nodes) ≡ false → node.span.parent ≡ None → new ≡ leave_out i nodes → IsTied less new
 tied-root branches less nodes new i node grown rising tied keeps here childless parent e =
     let whole : new ≡ without_child node.span.parent (leave_out i nodes) = e ∙ ap (λ o. without_child o (leave_out i nodes)) (sym parent) in
     subst (IsTied less) (sym whole) (tied-remove branches less nodes i node grown rising tied keeps here childless)
 
 -- the spans that are left
-pub spans-leaf : (nodes left new : List KeptSpan) (i p : Id) → left ≡ leave_out i nodes → new ≡ change_kept child_less p left →
+pub spans-leaf : (nodes left new : List KeptSpan) (i p : Id) → left ≡ leave_out i nodes → new ≡ change_node child_less p left →
     spans_of new ≡ without i (spans_of nodes)
 spans-leaf nodes left new i p e e' =
-    ap spans_of (e' ∙ ap (change_kept child_less p) e) ∙ spans-same child_less (λ n. refl) p (leave_out i nodes) ∙ spans-left i nodes
+    ap spans_of (e' ∙ ap (change_node child_less p) e) ∙ spans-same child_less (λ n. refl) p (leave_out i nodes) ∙ spans-left i nodes

@@ -5,6 +5,6 @@ pub mod Forest
 pub mod Lookup
 pub mod Paths
 pub mod Registered
-pub mod Kept
+pub mod Nodes
 pub mod Slots
 pub mod Branches

@@ -13,7 +13,8 @@ use Rattle.tracing_tree_layer.specs.declared.call.Call.TheVariants.{New, Clone, 
 use Rattle.ttree_source.specs.Levels.{is_shown, rank, shown_calls}
 use Rattle.tracing_tree_spans.specs.declared.registry.Event.{Event as EventParts}
 use Rattle.tracing_tree_base.specs.declared.style.Level.{Level}
-use Rattle.ttree_adapters.specs.Failures.{FailuresState, Kept, all_kept, alone, call_kept, event_left_out, failed, is_end, is_failure_level, lines_of, no_lines, with_held_line, with_line_in, without_lines}
+use Rattle.ttree_adapters.specs.Mapping.{Made}
+use Rattle.ttree_adapters.specs.Failures.{FailuresState, all_kept, alone, call_kept, event_left_out, failed, is_end, is_failure_level, lines_of, no_lines, with_held_line, with_line_in, without_lines}
 
 module _ (min_level : Level) where
   -- none of these calls is shown
@@ -26,9 +27,9 @@ module _ (min_level : Level) where
     pub below : All AreBelow (values_of s.held)
 
   -- of what a call becomes, that call is shown if it is one of those
-  record Keeps (call : Call) (made : Kept) : Type 0 where
+  record Keeps (call : Call) (made : Made FailuresState) : Type 0 where
     pub shown : shown_calls min_level made.calls ≡ shown_calls min_level (call ∷ [])
-    pub holds : HoldsBelow made.state
+    pub holds : HoldsBelow made.mapping
 
   below_found : (found : Option (List Call)) → IfSome found AreBelow → AreBelow (unwrap_or found [])
   below_found (Some lines) below = below
@@ -78,7 +79,7 @@ module _ (min_level : Level) where
   alone_keeps call s holds = record { shown = refl; holds = holds }
 
   left_keeps : (ends : Bool) (span : Option Id) (call : Call) (s : FailuresState) → is_shown min_level call ≡ false → HoldsBelow s →
-      Keeps call (record { calls = []; state = if ends then s else with_line_in span call s })
+      Keeps call (record { calls = []; mapping = if ends then s else with_line_in span call s })
   left_keeps true span call s hidden holds = record { shown = sym (one_below call hidden); holds = holds }
   left_keeps false span call s hidden holds = record {
     shown = sym (one_below call hidden);
@@ -114,7 +115,7 @@ module _ (min_level : Level) where
   shown_of_all [] s holds = refl
   shown_of_all (call ∷ others) s holds =
       let first = keeps call s holds in
-      let next = (call_kept call s).state in
+      let next = (call_kept call s).mapping in
       filter-append (is_shown min_level) (call_kept call s).calls (all_kept others next).calls
       ∙ ap (λ (l : List Call). l ++ shown_calls min_level (all_kept others next).calls) first.shown
       ∙ ap (λ (l : List Call). shown_calls min_level (call ∷ []) ++ l) (shown_of_all others next first.holds)

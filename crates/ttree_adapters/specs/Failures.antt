@@ -67,26 +67,21 @@ with_line_in None line s = s
 
 -- ---- calls
 
--- what a call becomes, and the state afterwards
-pub record Kept : Type 0 where
-  pub calls : List Call
-  pub state : FailuresState
-
 -- a call that is made at once
-abbrev pub alone : Call → FailuresState → Kept
-alone call s = record { calls = call ∷ []; state = s }
+abbrev pub alone : Call → FailuresState → Made FailuresState
+alone call s = record { calls = call ∷ []; mapping = s }
 
 -- a failure comes after the lines of its span
-abbrev pub failed : Option Id → Call → FailuresState → Kept
+abbrev pub failed : Option Id → Call → FailuresState → Made FailuresState
 failed span call s =
-    record { calls = lines_in span s ++ call ∷ []; state = without_lines_in span s }
+    record { calls = lines_in span s ++ call ∷ []; mapping = without_lines_in span s }
 
 -- an event below the least level
-abbrev pub event_left_out : List Field → Option Id → Call → FailuresState → Kept
+abbrev pub event_left_out : List Field → Option Id → Call → FailuresState → Made FailuresState
 event_left_out fields span call s =
-    record { calls = []; state = if is_end fields then s else with_line_in span call s }
+    record { calls = []; mapping = if is_end fields then s else with_line_in span call s }
 
-abbrev pub event_kept : EventParts → Context → FailuresState → Kept
+abbrev pub event_kept : EventParts → Context → FailuresState → Made FailuresState
 event_kept event context s =
     if is_failure_level event.level then failed context.current (Event event context) s
     else if nat_le (rank s.min_level) (rank event.level) then alone (Event event context) s
@@ -94,7 +89,7 @@ event_kept event context s =
 
 -- An event below the least level is held with its span, unless it is the end of a test. A failure
 -- in the span brings back what is held, and the end of the span drops it.
-abbrev pub call_kept : Call → FailuresState → Kept
+abbrev pub call_kept : Call → FailuresState → Made FailuresState
 call_kept (Event event context) s = event_kept event context s
 call_kept (Close id context) s = alone (Close id context) (without_lines id.0 s)
 call_kept (New attributes context) s = alone (New attributes context) s
@@ -105,7 +100,7 @@ abbrev pub all_kept : List Call → FailuresState → Made FailuresState
 all_kept [] s = record { calls = []; mapping = s }
 all_kept (call ∷ others) s =
     let first = call_kept call s in
-    let rest = all_kept others first.state in
+    let rest = all_kept others first.mapping in
     record { calls = first.calls ++ rest.calls; mapping = rest.mapping }
 
 -- Whatever spans hold, the calls that aren't events below the level are all made, in their order.

@@ -101,7 +101,7 @@ impl FailureLines {
     fn keep(&mut self, made: &mut Vec<Call>, call: Call) -> Result<(), AllocError>
         ensures calls { OnOk result (made.new.items
             ≡ made.old.items ++ (call_kept call self.old).calls) }
-        ensures state { OnOk result (self.new ≡ (call_kept call self.old).state) }
+        ensures state { OnOk result (self.new ≡ (call_kept call self.old).mapping) }
     {
         match call {
             Call::Event(event, context) => self.keep_event(made, event, context),
@@ -121,7 +121,7 @@ impl FailureLines {
     ) -> Result<(), AllocError>
         ensures calls { OnOk result (made.new.items ≡ made.old.items
             ++ (event_kept event context self.old).calls) }
-        ensures state { OnOk result (self.new ≡ (event_kept event context self.old).state) }
+        ensures state { OnOk result (self.new ≡ (event_kept event context self.old).mapping) }
     {
         if is_failure(event.level) {
             self.release(made, context.current)?;

@@ -10,7 +10,7 @@ use Rattle.ttree_page.specs.declared.form.LineForm.{LineForm}
 use Rattle.ttree_page.specs.declared.form.Kind.TheVariants as Kinds
 use Rattle.ttree_page.specs.Lines.{after_comma, ahead_parts, escaped_byte, field_parts, in_quotes, keyed_part, level_text, name_and_value, pairs, stamp_parts, start_text, step_end, step_line}
 use Rattle.ttree_page.specs.Steps.{Stamp, About, New, Record, Event, Close}
-use Rattle.ttree_page.proofs.Kept.{number-kept}
+use Rattle.ttree_page.proofs.Unescaped.{number-kept}
 use Rattle.std.specs.Fmt.{decimal, signed_decimal}
 use Rattle.std.specs.Int.{int_div_euclid, int_rem_euclid}
 

@@ -1,7 +1,7 @@
 pub mod WorkedLines
 pub mod WorkedReading
 pub mod Harmless
-pub mod Kept
+pub mod Unescaped
 pub mod Appended
 pub mod ReadStrings
 pub mod Runs

@@ -19,7 +19,7 @@ pub(crate) fn push_quoted(out: &mut String, text: &str) -> Result<(), AllocError
 }
 
 // Appends a string as it appears between quotes.
-#[tactic(auto, using(crate::proofs::Kept::unescaped))]
+#[tactic(auto, using(crate::proofs::Unescaped::unescaped))]
 pub(crate) fn push_escaped(out: &mut String, text: &str) -> Result<(), AllocError>
     ensures ok { OnOk result
         (string_bytes out.new ≡ string_bytes out.old ++ flat_map escaped_byte text.now) }

@@ -25,7 +25,7 @@ pub fn level_in(value: &Value<'_>) -> Option<Level>
 #[derive(Drop)]
 pub struct AtLeast<S> {
     source: S,
-    least: Level,
+    min_level: Level,
 }
 
 impl<S> Model for AtLeast<S> {
@@ -33,15 +33,15 @@ impl<S> Model for AtLeast<S> {
 
     ghost Value = { Leveled S };
 
-    ghost view = { λ a. record { source = a.source; least = a.least } };
+    ghost view = { λ a. record { source = a.source; min_level = a.min_level } };
 }
 
 impl<S> AtLeast<S> {
     /// Returns a source without the events below this level.
-    pub fn new(source: S, least: Level) -> AtLeast<S>
-        ensures { result ≡ record { source = source; least = least } }
+    pub fn new(source: S, min_level: Level) -> AtLeast<S>
+        ensures { result ≡ record { source = source; min_level = min_level } }
     {
-        AtLeast { source, least }
+        AtLeast { source, min_level }
     }
 
     /// Returns the source.
@@ -74,7 +74,7 @@ impl<S: Source> Source for AtLeast<S> {
         value: Option<&Value<'_>>,
     ) -> Result<Option<Vec<Call>>, AllocError> {
         match self.source.take(alloc, line, value)? {
-            Some(calls) => Ok(Some(shown_calls(self.least, calls))),
+            Some(calls) => Ok(Some(shown_calls(self.min_level, calls))),
             None => Ok(None),
         }
     }
@@ -85,25 +85,25 @@ impl<S: Source> Source for AtLeast<S> {
 
     fn end(&mut self, alloc: Global) -> Result<Vec<Call>, AllocError> {
         let calls = self.source.end(alloc)?;
-        Ok(shown_calls(self.least, calls))
+        Ok(shown_calls(self.min_level, calls))
     }
 }
 
 // Removes the events below the least level from these calls.
-fn shown_calls(least: Level, calls: Vec<Call>) -> Vec<Call>
-    ensures { result.items ≡ shown_calls least calls.items }
+fn shown_calls(min_level: Level, calls: Vec<Call>) -> Vec<Call>
+    ensures { result.items ≡ shown_calls min_level calls.items }
 {
     let mut calls = calls;
-    calls.retain(|call| is_shown(least, call));
+    calls.retain(|call| is_shown(min_level, call));
     calls
 }
 
 /// Returns whether a call isn't an event below the least level.
-pub fn is_shown(least: Level, call: &Call) -> bool
-    ensures { result ≡ is_shown least call.now }
+pub fn is_shown(min_level: Level, call: &Call) -> bool
+    ensures { result ≡ is_shown min_level call.now }
 {
     match call {
-        Call::Event(event, _) => rank(least) <= rank(event.level),
+        Call::Event(event, _) => rank(min_level) <= rank(event.level),
         Call::New(_, _) | Call::Clone(_) | Call::Record(_, _) | Call::Close(_, _) => true,
     }
 }

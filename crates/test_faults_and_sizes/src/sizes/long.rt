@@ -249,8 +249,8 @@ fn paths(alloc: Global, text: &str) -> Result<Vec<EventPath>, ReadFault> {
 
 // Returns how many ancestors the one event has, if only a span at this level is shown.
 fn ancestors(alloc: Global, level: usize) -> Result<usize, AllocError> {
-    let above = " ".repeat(alloc, level.saturating_sub(1).saturating_mul(2))?;
-    let text = format!(in alloc; "{above}└─┐b \n{above}  ├─x\n")?;
+    let indent = " ".repeat(alloc, level.saturating_sub(1).saturating_mul(2))?;
+    let text = format!(in alloc; "{indent}└─┐b \n{indent}  ├─x\n")?;
     match paths(alloc, text.as_str()) {
         Ok(paths) => Ok(
             paths

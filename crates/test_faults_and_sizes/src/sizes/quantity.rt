@@ -76,10 +76,10 @@ fn chain(
     run: &mut Run,
     size: u64,
     first: u64,
-    above: Option<u64>,
+    parent: Option<u64>,
     level: u64,
 ) -> Result<(), AllocError> {
-    let mut current = above;
+    let mut current = parent;
     for place in 0..size {
         run.open(current, level.wrapping_add(place))?;
         current = Some(first.wrapping_add(place));

@@ -21,7 +21,7 @@ enum Method {
     Run,
 
     // On a layer without a registry, over a registry that stores paths.
-    Kept,
+    Registered,
 
     // Like `Kept`, over a registry that walks them.
     Walked,
@@ -36,7 +36,7 @@ fn text(
 ) -> Result<Tape, Option<Refusal>> {
     match method {
         Method::Run => by_run(alloc, settings, calls),
-        Method::Kept => over(alloc, settings, Registry::new(alloc), calls),
+        Method::Registered => over(alloc, settings, Registry::new(alloc), calls),
         Method::Walked => over(alloc, settings, Walked::new(alloc), calls),
     }
 }
@@ -131,9 +131,9 @@ fn try_size(
     number: u64,
 ) -> Result<(), AllocError> {
     let (method, other) = match size % 3 {
-        0 => (Method::Run, Method::Kept),
-        1 => (Method::Kept, Method::Walked),
-        _ => (Method::Walked, Method::Kept),
+        0 => (Method::Run, Method::Registered),
+        1 => (Method::Registered, Method::Walked),
+        _ => (Method::Walked, Method::Registered),
     };
     let drawn = is_drawn(rt.alloc(), quantity, size, method)?;
     assert!(rt; drawn, "{quantity:?} of {size}, {method:?}");

@@ -3,7 +3,7 @@ use Rattle.std.proofs.Common.{◌≡◌, ◌≢◌, ℕ, zero, suc, ◌+◌, ◌
 use Rattle.std.proofs.lemmas.Bool.{cases_lt}
 use Rattle.std.specs.List.{enumerate_from, last_or, range_with_len, filter_map}
 use Rattle.std.proofs.lemmas.List.{take_all, take-append-le}
-use Rattle.tracing_tree_drawing.specs.Rows.RowText.{TextRow, above, event_path, event_path_at, event_paths, is_event, is_opening, last_place, opens_level}
+use Rattle.tracing_tree_drawing.specs.Rows.RowText.{TextRow, ancestor_at, event_path, event_path_at, event_paths, is_event, is_opening, last_place, opens_level}
 use Rattle.tracing_tree_drawing.specs.Rows.Paths.{AreLastPlaces, ArePathsOf, FollowsRows, place_at}
 use Rattle.tracing_tree_drawing.specs.declared.rows.paths.EventPath.{EventPath}
 use Rattle.tracing_tree_drawing.specs.declared.rows.row.Shape.{Shape}
@@ -46,14 +46,14 @@ last_place-push {X = X} test xs x = ap (option_map (λ e. e.0)) (last-entry test
     by true = ap Some zero-more
     by false = refl
 
-above-all : (rows : List TextRow) (level : ℕ) → above rows (length rows) level ≡ last_place (opens_level level) rows
-above-all rows level = ap (last_place (opens_level level)) (take_all (length rows) rows (omega arith))
+ancestor_at-all : (rows : List TextRow) (level : ℕ) → ancestor_at rows (length rows) level ≡ last_place (opens_level level) rows
+ancestor_at-all rows level = ap (last_place (opens_level level)) (take_all (length rows) rows (omega arith))
 
-above-push : (rows : List TextRow) (row : TextRow) (level : ℕ) →
-    above (rows ++ row ∷ []) (length (rows ++ row ∷ [])) level ≡ (if opens_level level row then Some (length rows) else above rows (length rows) level)
-above-push rows row level =
-    above-all (rows ++ row ∷ []) level ∙ last_place-push (opens_level level) rows row
-    ∙ ap (λ o. if opens_level level row then Some (length rows) else o) (sym (above-all rows level))
+ancestor_at-push : (rows : List TextRow) (row : TextRow) (level : ℕ) →
+    ancestor_at (rows ++ row ∷ []) (length (rows ++ row ∷ [])) level ≡ (if opens_level level row then Some (length rows) else ancestor_at rows (length rows) level)
+ancestor_at-push rows row level =
+    ancestor_at-all (rows ++ row ∷ []) level ∙ last_place-push (opens_level level) rows row
+    ∙ ap (λ o. if opens_level level row then Some (length rows) else o) (sym (ancestor_at-all rows level))
 
 -- before the first row
 pub last_none : AreLastPlaces [] []
@@ -65,13 +65,13 @@ pub follows-opening : (rows : List TextRow) (row : TextRow) (old new : List (Opt
     FollowsRows rows row None new
 follows-opening rows row old new place at last opens quiet moved = record {
   last = λ k. moved k ∙ ap (λ p. if row.level == k then Some p else place_at old k) at ∙ ap (λ o. if row.level == k then Some (length rows) else o) (last k)
-      ∙ ap (λ b. if b && (row.level == k) then Some (length rows) else above rows (length rows) k) (sym opens) ∙ sym (above-push rows row k);
+      ∙ ap (λ b. if b && (row.level == k) then Some (length rows) else ancestor_at rows (length rows) k) (sym opens) ∙ sym (ancestor_at-push rows row k);
   found = sym (ap (λ b. if b then Some (event_path rows (length rows) row.level) else None) quiet);
 }
 
 stays : (rows : List TextRow) (row : TextRow) (old : List (Option ℕ)) → AreLastPlaces rows old → is_opening row.shape ≡ false → AreLastPlaces (rows ++ row ∷ []) old
 stays rows row old last shut k =
-    last k ∙ ap (λ b. if b && (row.level == k) then Some (length rows) else above rows (length rows) k) (sym shut) ∙ sym (above-push rows row k)
+    last k ∙ ap (λ b. if b && (row.level == k) then Some (length rows) else ancestor_at rows (length rows) k) (sym shut) ∙ sym (ancestor_at-push rows row k)
 
 -- an event's row
 pub follows-event : (rows : List TextRow) (row : TextRow) (old : List (Option ℕ)) (place : ℕ) (places : List (Option ℕ)) → place ≡ length rows → AreLastPlaces rows old →

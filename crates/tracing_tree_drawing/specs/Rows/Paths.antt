@@ -1,7 +1,7 @@
 -- Where a drawing shows the ancestors of its events.
 use Rattle.std.specs.Prelude.{◌≡◌, ℕ, ◌++◌, ◌∷◌, List, [], length, slice_get, Option, option_and_then, Result, Ok, Err}
 use Rattle.std.specs.declared.alloc.AllocError.{AllocError}
-use Rattle.tracing_tree_drawing.specs.Rows.RowText.{TextRow, IsOnlyReading, above, event_path_at, event_paths}
+use Rattle.tracing_tree_drawing.specs.Rows.RowText.{TextRow, IsOnlyReading, ancestor_at, event_path_at, event_paths}
 use Rattle.tracing_tree_drawing.specs.declared.rows.paths.EventPath.{EventPath}
 
 -- the place that is kept for a level, if one is
@@ -10,7 +10,7 @@ place_at places level = option_and_then (λ place. place) (slice_get places leve
 
 -- for each level, the place of the last of these rows that opens a span of exactly that level
 abbrev pub AreLastPlaces : List TextRow → List (Option ℕ) → Type 0
-AreLastPlaces rows places = (level : ℕ) → place_at places level ≡ above rows (length rows) level
+AreLastPlaces rows places = (level : ℕ) → place_at places level ≡ ancestor_at rows (length rows) level
 
 -- what the row after these does: its path is returned if it is an event's
 pub record FollowsRows (rows : List TextRow) (row : TextRow) (path : Option EventPath)

@@ -184,13 +184,13 @@ last_place test xs =
     (last_or None (filter (λ entry. test entry.1) (enumerate_from 0 xs)))
 
 -- the place of the last row before this one that opens a span of the level
-abbrev pub above : List TextRow → ℕ → ℕ → Option ℕ
-above rows place level = last_place (opens_level level) (take place rows)
+abbrev pub ancestor_at : List TextRow → ℕ → ℕ → Option ℕ
+ancestor_at rows place level = last_place (opens_level level) (take place rows)
 
 -- the event at a place, with the places of the rows that open its ancestors, the root's first
 abbrev pub event_path : List TextRow → ℕ → ℕ → EventPath
 event_path rows place level =
-    record { event = place; ancestors = map (above rows place) (range_with_len 0 level) }
+    record { event = place; ancestors = map (ancestor_at rows place) (range_with_len 0 level) }
 
 -- the same of a row, if it is an event's
 abbrev pub event_path_at : List TextRow → ℕ → TextRow → Option EventPath

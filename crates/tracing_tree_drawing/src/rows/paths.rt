@@ -113,7 +113,7 @@ impl Ancestry {
         if !is_event(row.shape()) {
             return Ok(None);
         }
-        let ancestors = self.above(alloc, row.level())?;
+        let ancestors = self.ancestors(alloc, row.level())?;
         Ok(Some(EventPath {
             event: place,
             ancestors,
@@ -134,7 +134,7 @@ impl Ancestry {
     }
 
     // Returns the places of the levels below this one.
-    fn above(&self, alloc: Global, level: usize) -> Result<Places, AllocError>
+    fn ancestors(&self, alloc: Global, level: usize) -> Result<Places, AllocError>
         ensures { IfOk result (λ places.
             places ≡ map (place_at self.now) (range_with_len 0 level)) }
     {

@@ -9,7 +9,7 @@ use Rattle.tracing_tree_drawing.specs.Format.Picture.{Row}
 use Rattle.tracing_tree_base.specs.declared.context.Id.{Id}
 use Rattle.tracing_tree_drawing.specs.declared.format.SpanMode.{SpanMode}
 use Rattle.tracing_tree_drawing.specs.declared.format.SpanMode.TheVariants as Kind
-use Rattle.tracing_tree_drawing.specs.Rows.RowText.{TextRow, shape_of, is_opening, opens_level, above}
+use Rattle.tracing_tree_drawing.specs.Rows.RowText.{TextRow, shape_of, is_opening, opens_level, ancestor_at}
 use Rattle.tracing_tree_drawing.specs.Rows.Readable.{text_row, text_rows}
 use Rattle.tracing_tree_layer.specs.Laws.Ancestors.{AncestorsLaw}
 use Rattle.tracing_tree_layer.specs.Laws.Reading.{ReadingLaw, ReadingLaws, run_is_on_path, is_opening_mode, opens_at, forest_at, place_of, rows_of, latest}
@@ -70,9 +70,9 @@ at-take (row ∷ rows) (suc n) zero lt = refl
 at-take (row ∷ rows) (suc n) (suc k) lt = at-take rows n k (omega arith)
 
 -- if the latest row of a level is of a span, the drawing shows its place
-shown-above : (rows : List Row) (place level : ℕ) (o : Option Id) → latest rows place level ≡ o → (o ≡ None → ⊥) →
-    IsSomeAnd (above (text_rows rows) place level) (λ at. IsSomeAnd (slice_get rows at) (λ row. IsTrue (opens_at level row) × (row.span ≡ o)))
-shown-above rows place level o h some =
+shown-ancestor_at : (rows : List Row) (place level : ℕ) (o : Option Id) → latest rows place level ≡ o → (o ≡ None → ⊥) →
+    IsSomeAnd (ancestor_at (text_rows rows) place level) (λ at. IsSomeAnd (slice_get rows at) (λ row. IsTrue (opens_at level row) × (row.span ≡ o)))
+shown-ancestor_at rows place level o h some =
     let found = last-entry rows level (take place rows) 0 None None
     (λ k lt. ap (slice_get rows) (let s : 0 + k ≡ k = omega arith in s) ∙ at-take rows place k lt) refl in
     let same : seen None level (take place rows) ≡ o = sym (latest-seen rows place level) ∙ h in
@@ -93,7 +93,7 @@ within-some (i ∷ ids) (suc level) lt e = within-some ids level (omega arith) e
 
 ancestors-law : (settings : Settings) (timer : Timer) (first : Option Id) (calls : List Call) → ReadingLaw settings timer first calls → AncestorsLaw settings timer first calls
 ancestors-law settings timer first calls reading e i within level lt =
-    shown-above (rows_of settings timer first calls) (place_of e) level (slice_get (path_of (forest_at e) i) level) (reading e i within level lt)
+    shown-ancestor_at (rows_of settings timer first calls) (place_of e) level (slice_get (path_of (forest_at e) i) level) (reading e i within level lt)
     (within-some (path_of (forest_at e) i) level lt)
 
 -- under the premises of the reading law

@@ -18,7 +18,7 @@ use Rattle.tracing_tree_layer.specs.Layer.Turns.{retrace_to, then_turn, close_tu
 use Rattle.tracing_tree_layer.specs.Laws.Reading.{close_is_on_path, closes_are_on_path}
 use Rattle.tracing_tree_layer.proofs.Reading.Changes.{no_both, changed_all}
 use Rattle.tracing_tree_layer.proofs.Reading.Left.{Each, GoesAlong, is_gone, closing-along}
-use Rattle.tracing_tree_layer.proofs.Reading.Kept.{IsFollowed, well-formed, IsAllShown, IsLatest, IsQuiet, followed-quiet, latest-same, all_shown-quiet, marked, marked-same, printed-marked, followed-left, latest-left, all_shown-left, latest-retrace, printed-live}
+use Rattle.tracing_tree_layer.proofs.Reading.Followed.{IsFollowed, well-formed, IsAllShown, IsLatest, IsQuiet, followed-quiet, latest-same, all_shown-quiet, marked, marked-same, printed-marked, followed-left, latest-left, all_shown-left, latest-retrace, printed-live}
 use Rattle.tracing_tree_layer.proofs.Reading.Turns.{IsKeptUp, IsLatestAfter, kept-quiet, latest-quiet, kept-retrace, kept-then, latest-then, parent-on_path, parent-found, kept-close_turn, latest-close_turn, IsShown, IsParentOn}
 
 -- ---- forests whose spans have changed

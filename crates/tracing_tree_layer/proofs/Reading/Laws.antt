@@ -18,7 +18,7 @@ use Rattle.tracing_tree_layer.proofs.Reading.Changes.{no_both}
 use Rattle.tracing_tree_layer.proofs.Reading.Left.{is_gone}
 use Rattle.tracing_tree_layer.proofs.Reading.Parts.{at_seam, contains-any}
 use Rattle.tracing_tree_layer.proofs.Reading.Seen.{seen, latest-seen, opened-left}
-use Rattle.tracing_tree_layer.proofs.Reading.Kept.{well-formed, IsLatest, latest-fresh, fresh-whole}
+use Rattle.tracing_tree_layer.proofs.Reading.Followed.{well-formed, IsLatest, latest-fresh, fresh-whole}
 use Rattle.tracing_tree_layer.proofs.Reading.Turns.{current-live}
 use Rattle.tracing_tree_layer.proofs.Reading.Closes.{IsOnOrRetraced}
 use Rattle.tracing_tree_layer.proofs.Reading.Runs.{IsKeptState, kept-run, latest-run, on_path-front, kept-opening, latest-opening}

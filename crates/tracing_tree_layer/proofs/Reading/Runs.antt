@@ -27,7 +27,7 @@ use Rattle.tracing_tree_layer.specs.declared.call.Call.{Call}
 use Rattle.tracing_tree_layer.specs.declared.call.Call.TheVariants as A
 use Rattle.tracing_tree_layer.proofs.Reading.Changes.{no_both}
 use Rattle.tracing_tree_layer.proofs.Reading.Newest.{forest-grown}
-use Rattle.tracing_tree_layer.proofs.Reading.Kept.{IsFollowed, well-formed, IsAllShown, IsLatest, IsQuiet, followed-more, latest-more, followed-quiet, latest-same, all_shown-quiet}
+use Rattle.tracing_tree_layer.proofs.Reading.Followed.{IsFollowed, well-formed, IsAllShown, IsLatest, IsQuiet, followed-more, latest-more, followed-quiet, latest-same, all_shown-quiet}
 use Rattle.tracing_tree_layer.proofs.Reading.Turns.{IsKeptUp, kept-new, latest-new_turn, kept-event, latest-event}
 use Rattle.tracing_tree_layer.proofs.Reading.Closes.{quiet-one, followed-close_call, all_shown-close_call, latest-close_call, IsOnOrRetraced, first-on}
 

@@ -24,7 +24,7 @@ use Rattle.tracing_tree_layer.proofs.Reading.Newest.{path_of-new, parent-is_live
 use Rattle.tracing_tree_layer.proofs.Reading.Left.{is_gone}
 use Rattle.tracing_tree_layer.proofs.Reading.Parts.{in_left, in_either, own-path}
 use Rattle.tracing_tree_layer.proofs.Reading.Seen.{Opens, seen, seen-parent_rows, opened-left, opened-right}
-use Rattle.tracing_tree_layer.proofs.Reading.Kept.{IsFollowed, well-formed, IsAllShown, IsLatest, followed-more, latest-more, followed-last, latest-last, opens-same, latest-same, marked, marked-same, followed-marks, all_shown-marks, mark_printed-all, fresh-whole, fresh-marks, followed-retrace, latest-retrace, followed-new, latest-new, live-new, all_shown-new}
+use Rattle.tracing_tree_layer.proofs.Reading.Followed.{IsFollowed, well-formed, IsAllShown, IsLatest, followed-more, latest-more, followed-last, latest-last, opens-same, latest-same, marked, marked-same, followed-marks, all_shown-marks, mark_printed-all, fresh-whole, fresh-marks, followed-retrace, latest-retrace, followed-new, latest-new, live-new, all_shown-new}
 
 -- what a run keeps, after a turn that follows these rows
 pub record IsKeptUp (settings : Settings) (rows : List Row) (turn : Turn) : Type 0 where

@@ -11,5 +11,5 @@ use Rattle.tracing_tree_base.specs.declared.context.Id.{Id}
 abbrev pub retraces_before_close : Settings → Forest → Option Id → Id → Bool
 retraces_before_close settings forest last i =
     settings.close_retrace && retraces settings && is_printed forest i
-    && option_map_or (λ above. not (list_any (same_id above) (path_of_any forest last)))
+    && option_map_or (λ parent. not (list_any (same_id parent) (path_of_any forest last)))
     (parent_of forest i) false

@@ -13,12 +13,12 @@ use Rattle.tracing_tree_layer.specs.Layered.State.{Turn}
 use Rattle.tracing_tree_layer.specs.Layer.Turns.{block_of}
 use Rattle.tracing_tree_layer.specs.Layer.CloseRetrace.{retraces_before_close}
 use Rattle.tracing_tree_layer.specs.declared.layer.path.Path.{Path}
-use Rattle.tracing_tree_layer.specs.declared.layer.path.Path.TheVariants.{Kept, Walked}
+use Rattle.tracing_tree_layer.specs.declared.layer.path.Path.TheVariants.{Borrowed, Walked}
 use Rattle.tracing_tree_layer.specs.declared.layer.plan.PlannedRow.{PlannedRow}
 
 -- the ids on a path
 abbrev pub ids_of : Path → List Id
-ids_of (Kept ids) = ids.now
+ids_of (Borrowed ids) = ids.now
 ids_of (Walked ids) = ids.items
 
 -- the rows about spans, the spans that become printed, and the last span afterwards
@@ -68,7 +68,7 @@ planned_row forest mode i = record { mode = mode; id = i; level = level_of fores
 -- a row about the parent of a span, if it is shown and there is a parent
 abbrev pub planned_parent : Bool → Forest → SpanMode → Id → List PlannedRow
 planned_parent shown forest mode i =
-    if shown then option_map_or (λ above. planned_row forest mode above ∷ []) (parent_of forest i)
+    if shown then option_map_or (λ parent. planned_row forest mode parent ∷ []) (parent_of forest i)
     []
     else []
 

@@ -79,7 +79,7 @@ module _ (settings : Settings) (context : Context) (forest : Forest) where
   -- a row about the parent of a span, if the setting is on and there is a parent
   abbrev pub parent_rows : Bool → SpanMode → Id → List Row
   parent_rows on mode i =
-      if on then option_map_or (λ above. span_row mode above ∷ []) (parent_of forest i) [] else []
+      if on then option_map_or (λ parent. span_row mode parent ∷ []) (parent_of forest i) [] else []
 
   -- ---- retracing
 
@@ -115,11 +115,11 @@ module _ (settings : Settings) (context : Context) (forest : Forest) where
 -- its own row is a retrace row, as in tracing-tree.
 abbrev pub turn_of_new : Settings → Context → Forest → Option Id → Id → Turn
 turn_of_new settings context forest last i =
-    let above = parent_rows settings context forest settings.verbose_entry PreOpen i in
+    let parent = parent_rows settings context forest settings.verbose_entry PreOpen i in
     let row = span_row settings context forest (Open settings.verbose_entry) i in
     if settings.deferred_spans then quiet_turn forest last
     else (if settings.span_retrace then retrace_to settings context (mark_printed i forest) last i
-    else record { rows = above ++ row ∷ []; forest = mark_printed i forest; last = Some i })
+    else record { rows = parent ++ row ∷ []; forest = mark_printed i forest; last = Some i })
 
 abbrev pub turn_of_event : Settings → Timer → Context → Forest → Option Id → Event → Turn
 turn_of_event settings timer context forest last event =
@@ -131,8 +131,8 @@ turn_of_event settings timer context forest last event =
 abbrev pub close_turn : Settings → Context → Id → Forest → Option Id → Turn
 close_turn settings context i forest last =
     let row = span_row settings context forest (Close settings.verbose_exit) i in
-    let above = parent_rows settings context forest settings.verbose_exit PostClose i in
-    record { rows = row ∷ above; forest = forest; last = option_or (parent_of forest i) last }
+    let parent = parent_rows settings context forest settings.verbose_exit PostClose i in
+    record { rows = row ∷ parent; forest = forest; last = option_or (parent_of forest i) last }
 
 -- the close of one span, while all that closes is still live: nothing if the span was deferred and
 -- never printed

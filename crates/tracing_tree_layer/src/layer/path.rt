@@ -8,7 +8,7 @@ use tracing_tree_base::Id;
 // The ids on a path, root first: as stored with the span, or found by walking up.
 #[derive(Drop)]
 pub(super) enum Path<'a> {
-    Kept(&'a [Id]),
+    Borrowed(&'a [Id]),
     Walked(Vec<Id>),
 }
 
@@ -17,7 +17,7 @@ impl Path<'_> {
         ensures { result.now ≡ ids_of self.now }
     {
         match self {
-            Path::Kept(ids) => ids,
+            Path::Borrowed(ids) => ids,
             Path::Walked(ids) => ids.as_slice(),
         }
     }

@@ -408,7 +408,7 @@ impl<S: LookupSpan> Planner<'_, S> {
             return Ok(Path::Walked(Vec::new(alloc)));
         };
         match self.spans.kept_path(id) {
-            Some(ids) => Ok(Path::Kept(ids)),
+            Some(ids) => Ok(Path::Borrowed(ids)),
             None => Ok(Path::Walked(self.spans.path(alloc, id)?)),
         }
     }

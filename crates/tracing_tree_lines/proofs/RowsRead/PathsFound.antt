@@ -12,7 +12,7 @@ use Rattle.tracing_tree_drawing.specs.Rows.Readable.{is_readable_row, text_row, 
 use Rattle.tracing_tree_layer.specs.Laws.Ancestors.{AncestorsLaw}
 use Rattle.tracing_tree_layer.specs.Laws.Reading.{forest_at, opens_at, place_of, rows_of}
 use Rattle.tracing_tree_layer.specs.Layer.Turns.{event_level, event_parent, event_row}
-use Rattle.tracing_tree_drawing.specs.Rows.RowText.{TextRow, above, event_path, event_path_at, event_paths, is_event}
+use Rattle.tracing_tree_drawing.specs.Rows.RowText.{TextRow, ancestor_at, event_path, event_path_at, event_paths, is_event}
 use Rattle.tracing_tree_drawing.specs.declared.rows.paths.EventPath.{EventPath}
 use Rattle.tracing_tree_layer.proofs.Reading.Ancestors.{ancestors-shown}
 use Rattle.tracing_tree_layer.proofs.Reading.Laws.{row-at}
@@ -82,7 +82,7 @@ paths-found amount text paths h settings timer first calls d on premise e i with
       path = event_path texts place count;
       among = subst (λ ps. Contains ps (event_path texts place count)) (sym (h.paths_are ∙ ap event_paths same)) among;
       event = refl;
-      counted = length-map-range_with_len (above texts place) 0 count;
+      counted = length-map-range_with_len (ancestor_at texts place) 0 count;
       shown = λ k lt. subst (λ o. IsSomeAnd o (λ p. IsSomeAnd (slice_get rows p) (λ row. IsTrue (opens_at k row) × (row.span ≡ slice_get (path_of (forest_at e) i) k))))
-          (sym (place_at-range (above texts place) 0 count k lt ∙ ap (above texts place) (let z : 0 + k ≡ k = omega arith in z))) (law e i within k lt);
+          (sym (place_at-range (ancestor_at texts place) 0 count k lt ∙ ap (ancestor_at texts place) (let z : 0 + k ≡ k = omega arith in z))) (law e i within k lt);
     }

@@ -1,7 +1,7 @@
 //! A thread's receiver over a layer with the history of all threads.
 
 ghost use Rattle.std.specs.Prelude.{◌≡◌};
-ghost use Rattle.tracing_tree_shared.specs.Kept.{answer_given};
+ghost use Rattle.tracing_tree_shared.specs.Books.{answer_given};
 
 use crate::draft::Refused;
 use crate::pass::{Pass, SharedLayer};

@@ -78,7 +78,7 @@ children_of forest i = filter (is_child_of i) forest.spans
 abbrev pub path_up : ℕ → List Span → Id → List Id
 path_up zero spans i = []
 path_up (suc steps) spans i =
-    option_map_or (λ span. option_map_or (λ above. path_up steps spans above) span.parent []
+    option_map_or (λ span. option_map_or (λ parent. path_up steps spans parent) span.parent []
     ++ i ∷ []) (find (has_id i) spans) []
 
 -- From the root down to the span; empty if it isn't live. As many steps as there are spans are
@@ -96,9 +96,9 @@ level_of forest i = length (path_of forest i) - 1
 
 -- each is live, the first has this parent, and each is the parent of the next
 abbrev pub Descends : Forest → Option Id → List Id → Type 0
-Descends forest above [] = ⊤
-Descends forest above (i ∷ below) =
-    (option_map (λ span. span.parent) (span_at forest i) ≡ Some above)
+Descends forest parent [] = ⊤
+Descends forest parent (i ∷ below) =
+    (option_map (λ span. span.parent) (span_at forest i) ≡ Some parent)
     × Descends forest (Some i) below
 
 -- a list from a root down to the span, each the parent of the next
@@ -118,7 +118,7 @@ abbrev pub IsGrown : List Span → Type 0
 IsGrown [] = ⊤
 IsGrown (span ∷ older) =
     IsTrue (not (list_any (has_id span.id) older))
-    × IsTrue (option_map_or (λ above. list_any (has_id above) older) span.parent true)
+    × IsTrue (option_map_or (λ parent. list_any (has_id parent) older) span.parent true)
     × IsGrown older
 
 -- the ids are below the next one
@@ -129,14 +129,14 @@ IsBelowNext forest =
 
 -- the first is above the second: a path down from a child of the first leads to the second
 abbrev pub IsAncestor : Forest → Id → Id → Type 0
-IsAncestor forest above i =
-    (way : List Id) × Descends forest (Some above) way × (last_or None way ≡ Some i)
+IsAncestor forest ancestor i =
+    (way : List Id) × Descends forest (Some ancestor) way × (last_or None way ≡ Some i)
 
 -- Each span has a distinct id, each parent is live, and no span is its own ancestor. The order of
 -- the list and the next id are arbitrary.
 pub record IsForest (forest : Forest) : Type 0 where
   pub distinct : IsDistinct same_id (map (λ span. span.id) forest.spans)
-  pub parents : (i above : Id) → parent_of forest i ≡ Some above → IsTrue (is_live forest above)
+  pub parents : (i parent : Id) → parent_of forest i ≡ Some parent → IsTrue (is_live forest parent)
   pub loopless : (i : Id) → IsAncestor forest i i → ⊥
 
 -- a forest whose spans are in the order in which they were made: each after its parent, and all

@@ -115,63 +115,63 @@ impl Branches {
 
     // Stores the path of a new child of the span with this path. If an allocation fails, each
     // stored path is unchanged.
-    pub(crate) fn add(&mut self, above: &SpanPath, id: Id) -> Result<SpanPath, AllocError>
+    pub(crate) fn add(&mut self, parent: &SpanPath, id: Id) -> Result<SpanPath, AllocError>
         ensures paths { KeepsPaths self.old.branches.items self.new.branches.items }
         ensures path { IfOk result
-            (λ path. (ids : List Id) → path_at self.old.branches.items above.now ≡ Some ids
+            (λ path. (ids : List Id) → path_at self.old.branches.items parent.now ≡ Some ids
             → path_at self.new.branches.items path ≡ Some (ids ++ id ∷ [])) }
     {
-        match above {
+        match parent {
             SpanPath::Short(path) => self.add_below_short(path.as_slice(), id),
             SpanPath::Long(place) => self.add_below_long(*place, id),
         }
     }
 
-    fn add_below_short(&mut self, above: &[Id], id: Id) -> Result<SpanPath, AllocError>
+    fn add_below_short(&mut self, parent: &[Id], id: Id) -> Result<SpanPath, AllocError>
         ensures paths { KeepsPaths self.old.branches.items self.new.branches.items }
         ensures path { IfOk result
-            (λ path. path_at self.new.branches.items path ≡ Some (above.now ++ id ∷ [])) }
+            (λ path. path_at self.new.branches.items path ≡ Some (parent.now ++ id ∷ [])) }
     {
-        if let Some(short) = ShortPath::below(above, id) {
+        if let Some(short) = ShortPath::below(parent, id) {
             return Ok(SpanPath::Short(short));
         }
-        let ids = joined(self.take_spare(), above, id)?;
+        let ids = joined(self.take_spare(), parent, id)?;
         self.start(ids)
     }
 
-    fn add_below_long(&mut self, above: Place, id: Id) -> Result<SpanPath, AllocError>
+    fn add_below_long(&mut self, parent: Place, id: Id) -> Result<SpanPath, AllocError>
         ensures paths { KeepsPaths self.old.branches.items self.new.branches.items }
         ensures path { IfOk result
-            (λ path. (ids : List Id) → path_at self.old.branches.items (Long above) ≡ Some ids
+            (λ path. (ids : List Id) → path_at self.old.branches.items (Long parent) ≡ Some ids
             → path_at self.new.branches.items path ≡ Some (ids ++ id ∷ [])) }
     {
-        if let Some(path) = self.extend(above, id)? {
+        if let Some(path) = self.extend(parent, id)? {
             return Ok(path);
         }
         let spare = self.take_spare();
-        let ids = joined(spare, self.long(above), id)?;
+        let ids = joined(spare, self.long(parent), id)?;
         self.start(ids)
     }
 
     // Appends an id to a branch that ends with its parent. Returns `None` if it ends otherwise.
-    fn extend(&mut self, above: Place, id: Id) -> Result<Option<SpanPath>, AllocError>
+    fn extend(&mut self, parent: Place, id: Id) -> Result<Option<SpanPath>, AllocError>
         ensures paths { KeepsPaths self.old.branches.items self.new.branches.items }
         ensures path { IfOk result
             (λ extended. IfSome extended
-            (λ path. (ids : List Id) → path_at self.old.branches.items (Long above) ≡ Some ids
+            (λ path. (ids : List Id) → path_at self.old.branches.items (Long parent) ≡ Some ids
             → path_at self.new.branches.items path ≡ Some (ids ++ id ∷ []))) }
     {
-        if above.branch >= self.branches.len() {
+        if parent.branch >= self.branches.len() {
             return Ok(None);
         }
-        let branch = &mut self.branches[above.branch];
-        if branch.len() != above.length {
+        let branch = &mut self.branches[parent.branch];
+        if branch.len() != parent.length {
             return Ok(None);
         }
         branch.push(id)?;
         Ok(Some(SpanPath::Long(Place {
-            branch: above.branch,
-            length: above.length + 1,
+            branch: parent.branch,
+            length: parent.length + 1,
         })))
     }
 
@@ -267,13 +267,13 @@ impl Branches {
 }
 
 // Returns the ids and one more, in this buffer.
-fn joined(buffer: Vec<Id>, above: &[Id], id: Id) -> Result<Vec<Id>, AllocError>
-    ensures { IfOk result (λ ids. ids.items ≡ above.now ++ id ∷ []) }
+fn joined(buffer: Vec<Id>, parent: &[Id], id: Id) -> Result<Vec<Id>, AllocError>
+    ensures { IfOk result (λ ids. ids.items ≡ parent.now ++ id ∷ []) }
 {
     let mut ids = buffer;
     ids.clear();
-    ids.reserve_exact(above.len() + 1)?;
-    ids.extend_from_slice(above)?;
+    ids.reserve_exact(parent.len() + 1)?;
+    ids.extend_from_slice(parent)?;
     ids.push(id)?;
     Ok(ids)
 }

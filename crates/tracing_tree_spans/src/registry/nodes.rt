@@ -4,7 +4,7 @@ ghost use Rattle.std.specs.Prelude.{◌≡◌, ◌<◌, ◌^◌, ◌++◌, [], �
 ghost use Rattle.std.specs.Fn.{FnOnceReturnsAtMut};
 ghost use Rattle.std.specs.Option.{option_map_or};
 ghost use Rattle.tracing_tree_spans.specs.Registry.Spans.{KeptSpan, handle_more, handle_less, child_more, child_less, kept_printed, fields_more};
-ghost use Rattle.tracing_tree_spans.specs.Registry.Kept.{kept_at, change_kept, leave_out, AreBelow};
+ghost use Rattle.tracing_tree_spans.specs.Registry.Nodes.{node_at, change_node, leave_out, AreBelow};
 ghost use Rattle.tracing_tree_spans.specs.declared.registry.slot.Slot.TheVariants.{Gone};
 ghost use Rattle.tracing_tree_spans.specs.Registry.Slots.{slot_has, slot_ids, present, ends_in_gap, AreRising, IsLaidOut};
 
@@ -49,7 +49,7 @@ impl Nodes {
 
     // Returns the span with this id.
     pub(crate) fn get(&self, id: Id) -> Option<&Node>
-        ensures { option_copied result ≡ kept_at self.now id }
+        ensures { option_copied result ≡ node_at self.now id }
     {
         let at = position(self.slots.as_slice(), id)?;
         self.slots[at].node()
@@ -89,49 +89,49 @@ impl Nodes {
     }
 
     pub(crate) fn add_handle(&mut self, id: Id)
-        requires { IfSome (kept_at self.old id) (λ node. node.span.handles < u64.MAX) }
-        ensures { self.new ≡ change_kept handle_more id self.old }
+        requires { IfSome (node_at self.old id) (λ node. node.span.handles < u64.MAX) }
+        ensures { self.new ≡ change_node handle_more id self.old }
     {
         self.update(id, |node| node.add_handle());
     }
 
     pub(crate) fn take_handle(&mut self, id: Id)
-        requires { IfSome (kept_at self.old id) (λ node. 0 < node.span.handles) }
-        ensures { self.new ≡ change_kept handle_less id self.old }
+        requires { IfSome (node_at self.old id) (λ node. 0 < node.span.handles) }
+        ensures { self.new ≡ change_node handle_less id self.old }
     {
         self.update(id, |node| node.take_handle());
     }
 
     pub(crate) fn add_child(&mut self, id: Id)
-        requires { IfSome (kept_at self.old id) (λ node. node.children < usize.MAX) }
-        ensures { self.new ≡ change_kept child_more id self.old }
+        requires { IfSome (node_at self.old id) (λ node. node.children < usize.MAX) }
+        ensures { self.new ≡ change_node child_more id self.old }
     {
         self.update(id, |node| node.add_child());
     }
 
     pub(crate) fn count_down_children(&mut self, id: Id)
-        requires { IfSome (kept_at self.old id) (λ node. 0 < node.children) }
-        ensures { self.new ≡ change_kept child_less id self.old }
+        requires { IfSome (node_at self.old id) (λ node. 0 < node.children) }
+        ensures { self.new ≡ change_node child_less id self.old }
     {
         self.update(id, |node| node.count_down_children());
     }
 
     pub(crate) fn set_written(&mut self, id: Id)
-        ensures { self.new ≡ change_kept kept_printed id self.old }
+        ensures { self.new ≡ change_node kept_printed id self.old }
     {
         self.update(id, |node| node.set_written());
     }
 
     // Changes the span with this id, if it is live.
     fn update<F: FnOnce(&mut Node)>(&mut self, id: Id, change: F)
-        requires callable { (node : KeptSpan) → kept_at self.old id ≡ Some node
+        requires callable { (node : KeptSpan) → node_at self.old id ≡ Some node
             → (x : _) → x.now ≡ node → F.pre change x }
         requires same_id { (node new : KeptSpan) → FnOnceReturnsAtMut F.FnOnce change node tt new
             → new.span.id ≡ node.span.id }
         ensures { (f : KeptSpan → KeptSpan)
             → ((node new : KeptSpan) → FnOnceReturnsAtMut F.FnOnce change node tt new
             → new ≡ f node)
-            → self.new ≡ change_kept f id self.old }
+            → self.new ≡ change_node f id self.old }
     {
         if let Some(at) = position(self.slots.as_slice(), id) {
             if let Slot::Live(node) = &mut self.slots[at] {
@@ -143,9 +143,9 @@ impl Nodes {
     // Appends fields to those of a span. If an allocation fails, nothing has changed. An id that
     // isn't live never allocates.
     pub(crate) fn record(&mut self, id: Id, fields: Fields) -> Result<(), AllocError>
-        ensures ok { OnOk result (self.new ≡ change_kept (fields_more fields) id self.old) }
+        ensures ok { OnOk result (self.new ≡ change_node (fields_more fields) id self.old) }
         ensures err { OnErr result (self.new ≡ self.old) }
-        ensures live { OnErr result (kept_at self.old id ≡ None → ⊥) }
+        ensures live { OnErr result (node_at self.old id ≡ None → ⊥) }
     {
         if let Some(at) = position(self.slots.as_slice(), id) {
             if let Slot::Live(node) = &mut self.slots[at] {

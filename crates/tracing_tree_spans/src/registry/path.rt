@@ -55,17 +55,17 @@ impl Model for ShortPath {
 
 impl ShortPath {
     // Returns the path of a child of the last of these, if it is short enough.
-    pub(crate) fn below(above: &[Id], id: Id) -> Option<ShortPath>
-        ensures { IfSome result (λ path. path ≡ above.now ++ id ∷ []) }
+    pub(crate) fn below(parent: &[Id], id: Id) -> Option<ShortPath>
+        ensures { IfSome result (λ path. path ≡ parent.now ++ id ∷ []) }
     {
-        if above.len() >= SHORT {
+        if parent.len() >= SHORT {
             return None;
         }
         let mut ids = [id; SHORT];
-        ids[..above.len()].copy_from_slice(above);
+        ids[..parent.len()].copy_from_slice(parent);
         Some(ShortPath {
             ids,
-            length: above.len() + 1,
+            length: parent.len() + 1,
         })
     }
 

@@ -10,7 +10,7 @@ ghost use Rattle.tracing_tree_spans.specs.Registry.Spans.{shown_span};
 ghost use Rattle.tracing_tree_spans.specs.Registry.Lookup.{data_at};
 ghost use Rattle.tracing_tree_spans.specs.Registry.Branches.{path_at, KeepsPaths};
 ghost use Rattle.tracing_tree_spans.specs.Registry.Registered.{IsNewSpan, IsCloned, IsClosed, ListsClosing, AsksLastHandle, listed, IsNewest, IsKept, alone};
-ghost use Rattle.tracing_tree_spans.specs.Registry.Kept.{spans_of, kept_at, with_child, without_span, AreBelow, CountsChildren, IsTied};
+ghost use Rattle.tracing_tree_spans.specs.Registry.Nodes.{spans_of, node_at, with_child, without_span, AreBelow, CountsChildren, IsTied};
 
 use super::branches::Branches;
 use super::node::Node;
@@ -52,7 +52,7 @@ pub struct Registry {
 impl Model for Registry {
     ghost use Rattle.tracing_tree_spans.specs.Registry.Forest.{Forest};
     ghost use Rattle.tracing_tree_spans.specs.Registry.Registered.{IsKept};
-    ghost use Rattle.tracing_tree_spans.specs.Registry.Kept.{spans_of, IsTied};
+    ghost use Rattle.tracing_tree_spans.specs.Registry.Nodes.{spans_of, IsTied};
 
     ghost Value = { Forest };
 
@@ -284,8 +284,8 @@ fn push_below(nodes: &mut Nodes, parent: Option<Id>, node: Node) -> Result<(), A
     ensures err { OnErr result (nodes.new ≡ nodes.old) }
 {
     nodes.push(node)?;
-    if let Some(above) = parent {
-        nodes.add_child(above);
+    if let Some(parent) = parent {
+        nodes.add_child(parent);
     }
     Ok(())
 }
@@ -295,7 +295,7 @@ fn push_below(nodes: &mut Nodes, parent: Option<Id>, node: Node) -> Result<(), A
 fn closing_part<'a>(nodes: &Nodes, node: &Node, path: &'a [Id]) -> &'a [Id]
     requires kept { IsKept (spans_of nodes.now) None }
     requires counted { CountsChildren nodes.now }
-    requires there { kept_at nodes.now node.now.span.id ≡ Some node.now }
+    requires there { node_at nodes.now node.now.span.id ≡ Some node.now }
     requires held { 0 < node.now.span.handles }
     requires path { path.now ≡ path_of (alone (spans_of nodes.now)) node.now.span.id }
     ensures { reverse result.now ≡ closing_of (alone (spans_of nodes.now)) node.now.span.id }
@@ -304,8 +304,8 @@ fn closing_part<'a>(nodes: &Nodes, node: &Node, path: &'a [Id]) -> &'a [Id]
         return &path[path.len()..];
     }
     let mut count = 1;
-    let mut above = node.parent();
-    while let Some(id) = above {
+    let mut next = node.parent();
+    while let Some(id) = next {
         let Some(parent) = nodes.get(id) else {
             break;
         };
@@ -313,7 +313,7 @@ fn closing_part<'a>(nodes: &Nodes, node: &Node, path: &'a [Id]) -> &'a [Id]
             break;
         }
         count += 1;
-        above = parent.parent();
+        next = parent.parent();
     }
     &path[path.len() - count..]
 }
@@ -348,12 +348,12 @@ fn remove_upward(nodes: &mut Nodes, branches: &mut Branches, id: Id, count: usiz
         → IsKept (spans_of nodes.new) next }
     ensures tied { IsTied branches.new.branches.items nodes.new }
 {
-    let mut above = Some(id);
+    let mut next = Some(id);
     for _ in 0..count {
-        let Some(id) = above else {
+        let Some(id) = next else {
             break;
         };
-        above = remove_leaf(nodes, branches, id);
+        next = remove_leaf(nodes, branches, id);
     }
 }
 

@@ -1,5 +1,5 @@
 use Rattle.std.proofs.Common.{arith, rules}
-use Rattle.ttree_page.proofs.Kept.{char-kept}
+use Rattle.ttree_page.proofs.Unescaped.{char-kept}
 use Rattle.ttree_page.proofs.string.push_char.Goals as goal
 
 pub returns-in_default-clause-ok : goal.returns-in_default-clause-ok

@@ -1,5 +1,5 @@
 use Rattle.ttree_page.proofs.Appended.{grown}
-use Rattle.ttree_page.proofs.Kept.{one-more-char}
+use Rattle.ttree_page.proofs.Unescaped.{one-more-char}
 use Rattle.ttree_page.proofs.string.push_with_escapes.Goals as goal
 
 pub loop-c-preserved : goal.loop-c-preserved

@@ -9,12 +9,12 @@ use denote.Param.Send.{IsSend, AllSend, owning_send, struct_send, sendable}
 use Rattle.std.specs.Prelude.{None, Some}
 use Rattle.std.proofs.Crossing.{frees}
 use Rattle.std_alloc.proofs.SendSync.{quiet, lies}
-use Rattle.tracing_tree_c.specs.Owned.{Kept, owned}
+use Rattle.tracing_tree_c.specs.Owned.{Contents, owned}
 use Rattle.tracing_tree_c.specs.contracts.drawing.Drawing as Drawing
 use Rattle.tracing_tree_c.proofs.drawing.Drawing.TheSendSync.{the_send as drawing}
 use Rattle.tracing_tree_c.specs.contracts.tree.Tree.{the_row, the_type}
 
-keyless : (at : Ptr) (kept : Kept) → Keyless (owned at kept)
+keyless : (at : Ptr) (kept : Contents) → Keyless (owned at kept)
 keyless at None = tt
 keyless at (Some x) =
     (lies Drawing.the_row drawing at x, frees.frees (record { memory = record { seal = tt } }) (raw (lone Drawing.the_row.mir)) at)

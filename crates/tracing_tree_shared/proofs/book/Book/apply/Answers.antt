@@ -1,5 +1,5 @@
 use Rattle.std.proofs.Common.{◌∙◌, Ok, refl, sym, ap}
-use Rattle.tracing_tree_shared.specs.Kept.{seen_on_tape}
+use Rattle.tracing_tree_shared.specs.Books.{seen_on_tape}
 use Rattle.tracing_tree_shared.proofs.Replays.{keeps_replay}
 use Rattle.tracing_tree_shared.proofs.book.Book.apply.Goals as goal
 

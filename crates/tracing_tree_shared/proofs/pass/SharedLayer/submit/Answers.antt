@@ -1,7 +1,7 @@
 use Rattle.std.proofs.Common.{inr, Ok, Err, sym, subst}
 use Rattle.std.proofs.lemmas.Result.{err_from_is_err_and}
 use Rattle.tracing_tree_layer.specs.declared.call.Reply.{Reply}
-use Rattle.tracing_tree_shared.specs.Kept.{IsAnsweredOnSome}
+use Rattle.tracing_tree_shared.specs.Books.{IsAnsweredOnSome}
 use Rattle.tracing_tree_shared.proofs.Replays.{answered_on_some}
 use Rattle.tracing_tree_shared.proofs.pass.SharedLayer.submit.Goals as goal
 

@@ -1,5 +1,5 @@
 use Rattle.std.proofs.Common.{sym, ap, ◌∙◌, subst}
-use Rattle.tracing_tree_spans.specs.Registry.Kept.{spans_of}
+use Rattle.tracing_tree_spans.specs.Registry.Nodes.{spans_of}
 use Rattle.tracing_tree_spans.specs.Registry.Branches.{KeepsOthers}
 use Rattle.tracing_tree_spans.proofs.SlotLists.{leave-none}
 use Rattle.tracing_tree_spans.proofs.KeptLists.{spans-left}

@@ -1,5 +1,5 @@
 use Rattle.std.proofs.Common.{◌≤◌, length, arith, refl, subst, sym}
-use Rattle.tracing_tree_spans.specs.Registry.Kept.{AreBelow}
+use Rattle.tracing_tree_spans.specs.Registry.Nodes.{AreBelow}
 use Rattle.tracing_tree_spans.specs.Registry.Slots.{present}
 use Rattle.tracing_tree_spans.proofs.SlotLists.{laid-push, present-push, present-fits}
 use Rattle.tracing_tree_spans.proofs.registry.nodes.Nodes.push.Goals as goal

@@ -1,6 +1,6 @@
 use Rattle.std.proofs.Common.{◌<◌, subst, sym, ap, ◌∙◌, refl, arith}
 use Rattle.tracing_tree_spans.specs.Registry.Forest.{Forest, named_parent, any_unless_live}
-use Rattle.tracing_tree_spans.specs.Registry.Kept.{spans_of, AreBelow, IsTied}
+use Rattle.tracing_tree_spans.specs.Registry.Nodes.{spans_of, AreBelow, IsTied}
 use Rattle.tracing_tree_spans.specs.Registry.Registered.{IsKept, alone}
 use Rattle.tracing_tree_spans.proofs.RegistryLaws.{kept-new, forest-new}
 use Rattle.tracing_tree_spans.proofs.NewestLaws.{newest-new, undone-new}

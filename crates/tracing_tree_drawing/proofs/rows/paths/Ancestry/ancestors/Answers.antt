@@ -1,6 +1,6 @@
 use Rattle.std.proofs.Common.{◌≡◌, ◌-◌, ◌≤◌, ◌++◌, ◌∷◌, [], ℕ, List, Option, None, ap, ◌∙◌, length, min, replicate, take, arith}
 use Rattle.tracing_tree_drawing.proofs.RowsRead.AncestryLaws.{places-kept, none-more}
-use Rattle.tracing_tree_drawing.proofs.rows.paths.Ancestry.above.Goals as goal
+use Rattle.tracing_tree_drawing.proofs.rows.paths.Ancestry.ancestors.Goals as goal
 
 pub loop-absent-preserved : goal.loop-absent-preserved
 loop-absent-preserved c =

@@ -1,5 +1,5 @@
 use Rattle.std.proofs.Common.{◌≡◌, ◌-◌, ◌++◌, None, replicate, take}
-use Rattle.tracing_tree_drawing.proofs.rows.paths.Ancestry.above.Given as goal
+use Rattle.tracing_tree_drawing.proofs.rows.paths.Ancestry.ancestors.Given as goal
 
 abbrev pub invariant-loop-absent : goal.invariant-loop-absent
 invariant-loop-absent l = l.places.items ≡ take l.kept l.self ++ replicate (l._absent - l.kept) None
