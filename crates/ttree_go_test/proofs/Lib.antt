@@ -5,4 +5,5 @@ mod Worked
 pub mod Failing
 pub mod Passing
 pub mod OwnNames
+pub mod Frames
 pub mod Laws

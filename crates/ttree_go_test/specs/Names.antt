@@ -1,5 +1,5 @@
 -- Lists by names, in the order of the names' bytes.
-use Rattle.std.specs.Prelude.{ℕ, List, [], ◌∷◌, Option, None, Some, Bool, true, false, not, is_some, Vec}
+use Rattle.std.specs.Prelude.{ℕ, List, [], ◌∷◌, Option, None, Some, Bool, true, false, not, is_some, option_map, Box, Vec}
 use Rattle.std.specs.Global.{Global}
 use Rattle.std.specs.Map.{lookup, remove_entry}
 use Rattle.std.specs.BTreeMap.{insert_entry, is_at}
@@ -42,6 +42,9 @@ module _ {X : Type 0} where
   is_apart (Some recent) list = not (is_some (named recent.name.items list))
 
   -- ---- the name that was used last, and its value
+
+  abbrev pub unboxed : Option (Box (Recent X) Global) → Option (Recent X)
+  unboxed recent = option_map (λ (b : Box (Recent X) Global). b.value) recent
 
   -- whether it is this name
   abbrev pub is_recent : List ℕ → Option (Recent X) → Bool

@@ -382,7 +382,7 @@ impl GoTest {
         let mut owner = self.take_owner(path, test)?;
         owner.has_begun = true;
         self.print_string(&mut owner, kind, text)?;
-        self.keep(owner)
+        self.keep_as(path, test, owner)
     }
 
     // Ends a test or a package.
@@ -644,6 +644,18 @@ impl GoTest {
         let mut tests = self.take_package(path.as_str())?;
         tests.put(self.alloc, name.as_str().as_bytes(), one)?;
         self.put_package(path.as_str(), tests)
+    }
+
+    // Puts back a test or a package like `keep`. Its path and its name aren't copied if given.
+    fn keep_as(&mut self, path: &str, test: &str, one: Running) -> Result<(), AllocError>
+        ensures { OnOk result (self.new ≡ test_kept (holds one self.old)) }
+    {
+        if one.path.as_str() != path || one.test.as_str() != test {
+            return self.keep(one);
+        }
+        let mut tests = self.take_package(path)?;
+        tests.put(self.alloc, test.as_bytes(), one)?;
+        self.put_package(path, tests)
     }
 
     // Puts back what is running in a package.

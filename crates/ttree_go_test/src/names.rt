@@ -1,7 +1,7 @@
 //! Values with names: tests by their names, and packages by their paths.
 
 ghost use Rattle.std.specs.Prelude.{◌≡◌, ◌++◌, ◌∷◌, ℕ, List, [], None, IfNone, IfOk, IfSome, OnOk, is_some, option_map};
-ghost use Rattle.ttree_go_test.specs.Names.{by_bytes, emptied, filled, is_recent, named, put, value_of, with_recent, without};
+ghost use Rattle.ttree_go_test.specs.Names.{by_bytes, emptied, filled, is_recent, named, put, unboxed, value_of, with_recent, without};
 
 use std::alloc::{AllocError, Global};
 use std::collections::BTreeMap;
@@ -15,23 +15,24 @@ struct Recent<X> {
 }
 
 // Values by their names, in the order of the names' bytes. The value that was used last is beside
-// the others, so it is found, taken out and stored without a search.
+// the others, so it is found, taken out and stored without a search. It is boxed, since the names
+// of a package are moved for each line.
 #[derive(Drop)]
 pub(crate) struct Named<X> {
     entries: BTreeMap<Vec<u8>, X>,
     // Its name isn't among the entries.
-    recent: Option<Recent<X>>,
+    recent: Option<Box<Recent<X>>>,
 }
 
 impl<X> Model for Named<X> {
     ghost use Rattle.std.specs.Prelude.{◌≡◌, ℕ, List, true};
-    ghost use Rattle.ttree_go_test.specs.Names.{by_bytes, is_apart, with_recent};
+    ghost use Rattle.ttree_go_test.specs.Names.{by_bytes, is_apart, unboxed, with_recent};
 
     ghost Value = { List (List ℕ × X) };
 
-    ghost view = { λ n. with_recent n.recent (by_bytes n.entries.entries) };
+    ghost view = { λ n. with_recent (unboxed n.recent) (by_bytes n.entries.entries) };
 
-    ghost invariant = { λ n. is_apart n.recent (by_bytes n.entries.entries) ≡ true };
+    ghost invariant = { λ n. is_apart (unboxed n.recent) (by_bytes n.entries.entries) ≡ true };
 }
 
 impl<X: Drop> Named<X> {
@@ -111,14 +112,14 @@ impl<X: Drop> Named<X> {
             return Ok(());
         }
         let one = Some(one);
-        self.recent = Some(Recent { name, one });
+        self.recent = Some(Box::new(alloc, Recent { name, one })?);
         Ok(())
     }
 }
 
 // Returns whether this name was used last.
-fn is_recent<X>(recent: &Option<Recent<X>>, name: &[u8]) -> bool
-    ensures { result ≡ is_recent name.now recent.now }
+fn is_recent<X>(recent: &Option<Box<Recent<X>>>, name: &[u8]) -> bool
+    ensures { result ≡ is_recent name.now (unboxed recent.now) }
 {
     match recent {
         Some(recent) => recent.name.as_slice() == name,
@@ -126,8 +127,8 @@ fn is_recent<X>(recent: &Option<Recent<X>>, name: &[u8]) -> bool
     }
 }
 
-fn value_of<X>(recent: &Option<Recent<X>>) -> Option<&X>
-    ensures { option_map (λ one. one.now) result ≡ value_of recent.now }
+fn value_of<X>(recent: &Option<Box<Recent<X>>>) -> Option<&X>
+    ensures { option_map (λ one. one.now) result ≡ value_of (unboxed recent.now) }
 {
     match recent {
         Some(recent) => recent.one.as_ref(),
@@ -135,9 +136,9 @@ fn value_of<X>(recent: &Option<Recent<X>>) -> Option<&X>
     }
 }
 
-fn take_value<X>(recent: &mut Option<Recent<X>>) -> Option<X>
-    ensures one { result ≡ value_of recent.old }
-    ensures rest { recent.new ≡ emptied recent.old }
+fn take_value<X>(recent: &mut Option<Box<Recent<X>>>) -> Option<X>
+    ensures one { result ≡ value_of (unboxed recent.old) }
+    ensures rest { unboxed recent.new ≡ emptied (unboxed recent.old) }
 {
     match recent {
         Some(recent) => recent.one.take(),
@@ -145,8 +146,8 @@ fn take_value<X>(recent: &mut Option<Recent<X>>) -> Option<X>
     }
 }
 
-fn set_value<X: Drop>(recent: &mut Option<Recent<X>>, one: X)
-    ensures { recent.new ≡ filled one recent.old }
+fn set_value<X: Drop>(recent: &mut Option<Box<Recent<X>>>, one: X)
+    ensures { unboxed recent.new ≡ filled one (unboxed recent.old) }
 {
     if let Some(recent) = recent {
         recent.one = Some(one);
@@ -156,15 +157,16 @@ fn set_value<X: Drop>(recent: &mut Option<Recent<X>>, one: X)
 // Stores the value that was used last among the entries.
 fn settle<X: Drop>(
     entries: &mut BTreeMap<Vec<u8>, X>,
-    recent: &mut Option<Recent<X>>,
+    recent: &mut Option<Box<Recent<X>>>,
 ) -> Result<(), AllocError>
     ensures entries { OnOk result (by_bytes entries.new.entries
-        ≡ with_recent recent.old (by_bytes entries.old.entries)) }
+        ≡ with_recent (unboxed recent.old) (by_bytes entries.old.entries)) }
     ensures recent { recent.new ≡ None }
 {
-    let Some(Recent { name, one }) = recent.take() else {
+    let Some(last) = recent.take() else {
         return Ok(());
     };
+    let Recent { name, one } = Box::into_inner(last);
     match one {
         Some(one) => {
             entries.insert(name, one)?;

@@ -157,12 +157,12 @@ impl<'k> Logs<'k> {
         ensures { OnOk result (self.new ≡ group_entered group.now self.old) }
     {
         let key = group_key(self.alloc, group)?;
-        match self.groups.span_of(key.as_slice()) {
-            Some(span) => {
+        match self.groups.find(key) {
+            Ok(span) => {
                 self.arrive(Some(span));
                 Ok(())
             }
-            None => self.open(key, group),
+            Err(key) => self.open(key, group),
         }
     }
 

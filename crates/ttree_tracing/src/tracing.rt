@@ -143,8 +143,9 @@ impl Tracing {
         }) }
     {
         let path = path_in(self.alloc, kind, value)?;
+        let parent = parent_in(self.alloc, kind, value, path.as_slice())?;
         let at = self.reach(path, thread_in(value))?;
-        match parent_in(self.alloc, kind, value)? {
+        match parent {
             Some(parent) => Ok(Some(self.find_parent(parent, thread_in(value))?)),
             None => Ok(at),
         }

@@ -2,7 +2,7 @@
 
 ghost use Rattle.std.specs.Prelude.{◌≡◌, ◌++◌, ◌∷◌, [], IfOk, OnOk, option_map};
 ghost use Rattle.ttree_source.specs.Calls.{close_call};
-ghost use Rattle.ttree_go_test.specs.GoTest.{cached_fields, coverage_fields, elapsed_fields, text_event_emitted, held_finished, frame_printed, framed, holds, level_of_line, line_reported, part_line_emitted, held_opened, part_emitted, quiet_emitted, span_ended, string_printed, text_printed, emitted_with_last};
+ghost use Rattle.ttree_go_test.specs.GoTest.{cached_fields, coverage_fields, elapsed_fields, text_event_emitted, held_finished, frame_printed, framed, holds, level_of_line, line_reported, part_line_emitted, held_opened, more_printed, part_emitted, quiet_emitted, span_ended, string_printed, text_printed, emitted_with_last};
 
 use super::GoTest;
 use super::running::{Kind, Running};
@@ -53,11 +53,29 @@ impl GoTest {
         ensures { OnOk result (holds owner.new self.new
             ≡ text_printed is_error text.now (holds owner.old self.old)) }
     {
-        owner.add_to_part(self.alloc, is_error, text)?;
         if ends_line(text.as_bytes()) {
-            return self.emit_printed(owner);
+            return self.emit_ended(owner, is_error, text);
         }
-        Ok(())
+        owner.add_to_part(self.alloc, is_error, text)
+    }
+
+    // Reports the line that this string ends. A string that is the whole line isn't copied.
+    fn emit_ended(
+        &mut self,
+        owner: &mut Running,
+        is_error: bool,
+        text: &str,
+    ) -> Result<(), AllocError>
+        ensures { OnOk result (holds owner.new self.new
+            ≡ part_line_emitted (more_printed is_error text.now (holds owner.old self.old))) }
+    {
+        if owner.part.as_str().is_empty() {
+            let level = level_of_line(owner.is_error || is_error);
+            owner.is_error = false;
+            return self.emit_line(owner, level, text);
+        }
+        owner.add_to_part(self.alloc, is_error, text)?;
+        self.emit_printed(owner)
     }
 
     // Reports the line that a test has printed, if there is one.

@@ -1,6 +1,6 @@
 //! Names of Go's tests, lines that are only frames, and lines about a package's end.
 
-ghost use Rattle.std.specs.Prelude.{◌≡◌, option_map};
+ghost use Rattle.std.specs.Prelude.{◌≡◌, ◌||◌, option_map};
 ghost use Rattle.ttree_go_test.specs.Texts.{after_path, after_tab, coverage_in, coverage_of, ends_line, ends_word, frames, is_cached, is_end_frame, is_frame, is_frame_line, is_name_frame, is_package_frame, is_progress, is_step_frame, is_summary, is_test_frame, own_name, percent, up_to_space, without_line_end, without_spaces};
 
 use ttree_source::marks::after_mark;
@@ -87,7 +87,20 @@ pub(super) fn is_frame(test: &str, line: &str) -> bool
 fn is_test_frame(test: &[u8], line: &[u8]) -> bool
     ensures { result ≡ is_test_frame test.now line.now }
 {
-    is_step_frame(test, line) || is_end_frame(test, line) || is_name_frame(test, line)
+    is_marked_frame(test, line) || is_name_frame(test, line)
+}
+
+// Returns whether a line has a mark and the test's name. Most lines begin with another byte than
+// the marks.
+#[tactic(auto, using(crate::proofs::Frames::step_marked, crate::proofs::Frames::end_marked, crate::proofs::Frames::unmarked))]
+fn is_marked_frame(test: &[u8], line: &[u8]) -> bool
+    ensures { result ≡ (is_step_frame test.now line.now || is_end_frame test.now line.now) }
+{
+    match line {
+        [b'=', ..] => is_step_frame(test, line),
+        [b'-', ..] => is_end_frame(test, line),
+        _ => false,
+    }
 }
 
 // Returns whether a line says that the test starts, waits or continues, or what belongs to it.

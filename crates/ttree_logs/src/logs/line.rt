@@ -105,7 +105,7 @@ fn level_key(value: &Value<'_>) -> Option<&'static str>
 pub(super) fn level_in(value: &Value<'_>) -> Level
     ensures { result ≡ line_level (value_view value.now) }
 {
-    match level_key(value) {
+    match first_key(&LEVEL_KEYS, value) {
         Some(key) => level_at(value, key).unwrap_or(Level::Info),
         None => Level::Info,
     }

@@ -1,8 +1,9 @@
 //! Reads one line of tracing-subscriber's JSON format.
 
-ghost use Rattle.std.specs.Prelude.{◌≡◌, IfOk, option_map};
+ghost use Rattle.std.specs.Prelude.{◌≡◌, ◌-◌, IfOk, length, option_map, slice_get};
+ghost use Rattle.ttree_tracing.specs.declared.tracing.line.Kind.{Kind};
 ghost use Rattle.json.specs.Value.{items_view, value_view};
-ghost use Rattle.ttree_tracing.specs.TracingLine.{bare_thread, fields_within, is_current, is_message_with, is_timed_close, items_listed, line_kind, kind_by_message, kind_of_message, label_in, line_fields, lists_same, listed_of, may_be, names_span, object_at, other_parent, parent_in, path_in, listed_span, spans_in, thread_in, thread_label};
+ghost use Rattle.ttree_tracing.specs.TracingLine.{bare_thread, fields_within, is_current, is_last, is_message_with, is_timed_close, items_listed, line_kind, kind_by_message, kind_of_message, label_in, line_fields, lists_same, listed_of, may_be, names_span, object_at, other_parent, parent_in, path_in, listed_span, spans_in, thread_in, thread_label};
 
 use json::Value;
 use std::alloc::{AllocError, Global};
@@ -177,27 +178,37 @@ pub(super) fn path_in(
 }
 
 // Returns the span that an event names as its parent: the current span, if it isn't the last that
-// is listed.
+// is listed. `path` has the spans of the line.
 pub(super) fn parent_in(
     alloc: Global,
     kind: Kind,
     value: &Value<'_>,
+    path: &[Listed],
 ) -> Result<Option<Listed>, AllocError>
+    requires { path.now ≡ path_in kind (value_view value.now) }
     ensures { IfOk result (λ parent. parent ≡ parent_in kind (value_view value.now)) }
 {
     match kind {
-        Kind::Event => other_parent(alloc, value),
+        Kind::Event => other_parent(alloc, value, path),
         Kind::New | Kind::Enter | Kind::Exit | Kind::Close => Ok(None),
     }
 }
 
-fn other_parent(alloc: Global, value: &Value<'_>) -> Result<Option<Listed>, AllocError>
+fn other_parent(
+    alloc: Global,
+    value: &Value<'_>,
+    path: &[Listed],
+) -> Result<Option<Listed>, AllocError>
+    requires { path.now ≡ path_in Kind.Event (value_view value.now) }
     ensures { IfOk result (λ parent. parent ≡ other_parent (value_view value.now)) }
 {
-    if array_at(value, "spans").is_none() || is_current(alloc, value)? {
+    if array_at(value, "spans").is_none() {
         return Ok(None);
     }
-    span_in(alloc, value)
+    match span_in(alloc, value)? {
+        Some(span) if !is_last(path, &span) => Ok(Some(span)),
+        Some(_) | None => Ok(None),
+    }
 }
 
 // Returns what a line reports, given its event's fields.
@@ -239,9 +250,16 @@ fn is_current(alloc: Global, value: &Value<'_>) -> Result<bool, AllocError>
     let Some(spans) = spans_in(alloc, value)? else {
         return Ok(false);
     };
-    match spans.as_slice().last() {
-        Some(last) => Ok(lists_same(last, &span)),
-        None => Ok(false),
+    Ok(is_last(spans.as_slice(), &span))
+}
+
+// Returns whether a span is the last of these.
+fn is_last(spans: &[Listed], span: &Listed) -> bool
+    ensures { result ≡ is_last (slice_get spans.now (length spans.now - 1)) span.now }
+{
+    match spans.last() {
+        Some(last) => lists_same(last, span),
+        None => false,
     }
 }
 

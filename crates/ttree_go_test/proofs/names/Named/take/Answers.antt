@@ -1,5 +1,5 @@
 use Rattle.std.proofs.Common.{sym, ap, ◌∙◌}
-use Rattle.ttree_go_test.specs.Names.{by_bytes, named, with_recent, without}
+use Rattle.ttree_go_test.specs.Names.{by_bytes, named, unboxed, with_recent, without}
 use Rattle.ttree_go_test.proofs.NamedLists.{looked_up, recent_named, recent_taken, removed}
 use Rattle.ttree_go_test.proofs.names.Named.take.Goals as goal
 
@@ -8,7 +8,7 @@ returns-then-is_recent-clause-one g c =
     let name = c.args.name.now in
     let entries = by_bytes c.self.inside.entries.entries in
     c.take_value.ensures.one
-    ∙ recent_named name c.self.inside.recent entries (sym c.is_recent.ensures ∙ c.if-is_recent.true) c.self.invariant
+    ∙ recent_named name (unboxed c.self.inside.recent) entries (sym c.is_recent.ensures ∙ c.if-is_recent.true) c.self.invariant
     ∙ ap (named name) c.self.view_is
 
 pub returns-then-is_recent-clause-rest : goal.returns-then-is_recent-clause-rest
@@ -16,7 +16,7 @@ returns-then-is_recent-clause-rest g c =
     let name = c.args.name.now in
     let entries = by_bytes c.self.inside.entries.entries in
     ap (λ recent. with_recent recent entries) c.take_value.ensures.rest
-    ∙ recent_taken name c.self.inside.recent entries (sym c.is_recent.ensures ∙ c.if-is_recent.true) c.self.invariant
+    ∙ recent_taken name (unboxed c.self.inside.recent) entries (sym c.is_recent.ensures ∙ c.if-is_recent.true) c.self.invariant
     ∙ ap (without name) c.self.view_is
 
 pub returns-clause-one : goal.returns-clause-one
@@ -28,6 +28,6 @@ returns-clause-one g c =
 pub returns-clause-rest : goal.returns-clause-rest
 returns-clause-rest g c =
     let name = c.args.name.now in
-    ap (λ recent. with_recent recent (by_bytes c.remove.new.self.entries)) c.in_ok-settle.ensures.recent
+    ap (λ recent. with_recent (unboxed recent) (by_bytes c.remove.new.self.entries)) c.in_ok-settle.ensures.recent
     ∙ ap by_bytes c.remove.ensures.entries ∙ removed name c.settle.new.entries.entries
     ∙ ap (without name) (c.in_ok-settle.ensures.entries ∙ c.self.view_is)

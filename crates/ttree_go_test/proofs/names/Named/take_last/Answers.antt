@@ -1,5 +1,5 @@
 use Rattle.std.proofs.Common.{[], ◌∷◌, ◌++◌, sym, ap, ◌∙◌}
-use Rattle.ttree_go_test.specs.Names.{by_bytes, with_recent}
+use Rattle.ttree_go_test.specs.Names.{by_bytes, unboxed, with_recent}
 use Rattle.ttree_go_test.proofs.NamedLists.{appended}
 use Rattle.ttree_go_test.proofs.names.Named.take_last.Goals as goal
 
@@ -10,5 +10,5 @@ returns-in-Some-clause-one g c =
       name.items,
       sym c.self.view_is ∙ sym c.in_ok-settle.ensures.entries ∙ ap by_bytes c.in-Some.ensures.removal
           ∙ appended left ((name, c.in-Some.one) ∷ [])
-          ∙ ap (λ recent. with_recent recent (by_bytes left) ++ (name.items, c.in-Some.one) ∷ []) (sym c.in_ok-settle.ensures.recent),
+          ∙ ap (λ recent. with_recent (unboxed recent) (by_bytes left) ++ (name.items, c.in-Some.one) ∷ []) (sym c.in_ok-settle.ensures.recent),
     )
