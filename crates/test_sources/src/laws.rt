@@ -1,5 +1,6 @@
 //! Calls of the laws that run something: the fresh spans of a path, the events that are read back
-//! of a run, and whether Go's tests have failed.
+//! of a run, whether Go's tests have failed, and how many results of TAP and cases of JUnit
+//! XML have.
 
 use super::seen::{START, Skipped, drawn};
 use std::alloc::{AllocError, Global};
@@ -8,9 +9,12 @@ use std::test::*;
 use test_support::{Step, calls, lined};
 use tracing_tree::format::Id;
 use tracing_tree::style::Level;
+use tracing_tree_laws::cases::count_cases;
 use tracing_tree_laws::difference::fresh_spans;
 use tracing_tree_laws::failures::have_tests_failed;
 use tracing_tree_laws::reading_back::{EventsRead, read_events};
+use tracing_tree_laws::results::count_results;
+use ttree_junit::Selection;
 
 #[test]
 fn gives_the_fresh_spans_of_a_path(rt: HostRuntime) -> Result<(), Fail> {
@@ -78,5 +82,43 @@ fn tests_fail_by_a_line_or_a_package_that_runs(rt: HostRuntime) -> Result<(), Fa
     ] {
         assert_eq!(rt; failed(rt.alloc(), input)?, Some(wanted));
     }
+    Ok(())
+}
+
+// Returns how many results of TAP failed.
+fn failed_results(alloc: Global, input: &str) -> Result<Option<u64>, AllocError> {
+    let mut notes = Skipped::new(alloc);
+    let mut layered = drawn(alloc)?;
+    let Ok(mut lines) = BufReader::with_capacity(alloc, 64 * 1024, input.as_bytes()) else {
+        return Err(AllocError);
+    };
+    match count_results(alloc, 1, START, &mut lines, &mut *layered, &mut notes) {
+        Some(tally) => Ok(Some(tally.failed)),
+        None => Ok(None),
+    }
+}
+
+#[test]
+fn results_fail_unless_skipped_or_todo(rt: HostRuntime) -> Result<(), Fail> {
+    for (input, wanted) in [
+        ("ok 1\n1..1\n", 0),
+        ("not ok 1 - a\nnot ok 2 - b # TODO\n1..2\n", 1),
+        ("    not ok 1 - a\nnot ok 1 - b\n1..1\n", 2),
+        ("not ok 1 # SKIP\n  ---\n  not ok 2\n  ...\n", 0),
+    ] {
+        assert_eq!(rt; failed_results(rt.alloc(), input)?, Some(wanted));
+    }
+    Ok(())
+}
+
+#[test]
+fn counts_the_cases_of_a_report(rt: HostRuntime) -> Result<(), Fail> {
+    let report = concat!(
+        "<testsuite><testcase name='a'/>",
+        "<testcase name='b'><failure/></testcase>",
+        "<testcase name='c'><skipped/></testcase></testsuite>",
+    );
+    let tally = count_cases(rt.alloc(), Selection::All, 1, START, report)?;
+    assert_eq!(rt; [tally.passed, tally.failed, tally.skipped], [1, 1, 1]);
     Ok(())
 }

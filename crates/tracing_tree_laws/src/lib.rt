@@ -6,6 +6,7 @@
 //! about those calls.
 #![tactic(auto)]
 
+pub mod cases;
 pub mod counts;
 pub mod dates;
 pub mod difference;
@@ -17,6 +18,7 @@ pub mod junit;
 pub mod lines;
 pub mod otlp;
 pub mod reading_back;
+pub mod results;
 pub mod runs;
 pub mod tap;
 pub mod tracers;

@@ -113,14 +113,14 @@ begins s = begins_element (outside_shown s) ∙ shows_outside s
 
 -- ---- what counts
 
-abbrev has_failures : Tally → Bool
+abbrev pub has_failures : Tally → Bool
 has_failures t = not (t.failed == 0)
 
 -- these outcomes are counted
 abbrev Counts : List Outcome → JunitState → JunitState → Type 0
 Counts outcomes s t = t.tally ≡ counted_all outcomes s.tally
 
-counted_after : (first others : List Outcome) (t : Tally) → counted_all (first ++ others) t ≡ counted_all others (counted_all first t)
+pub counted_after : (first others : List Outcome) (t : Tally) → counted_all (first ++ others) t ≡ counted_all others (counted_all first t)
 counted_after [] others t = refl
 counted_after (outcome ∷ rest) others t = counted_after rest others (counted_as outcome t)
 
@@ -178,7 +178,7 @@ ends_element (Some element) s = ends_as element s
 ends_element None s = counts_none s s refl
 
 -- what ends doesn't depend on the elements that are open
-elements_apart : (element : Option Element) (elements : List Element) (s : JunitState) → outcomes_if element (record s { elements = elements }) ≡ outcomes_if element s
+pub elements_apart : (element : Option Element) (elements : List Element) (s : JunitState) → outcomes_if element (record s { elements = elements }) ≡ outcomes_if element s
 elements_apart (Some SuiteElement) elements s = refl
 elements_apart (Some Case) elements s = refl
 elements_apart (Some Failure) elements s = refl
@@ -287,7 +287,7 @@ pub counts_of_outcomes : (selection : Selection) (next : ℕ) (moment : Moment) 
     (document_state selection next moment text).tally ≡ counted_all (outcomes_of selection next moment text) (record { passed = 0; failed = 0; skipped = 0 })
 counts_of_outcomes selection next moment text = reads_within (length text) (document_start text) (at_start selection next moment)
 
-failures_among : (outcomes : List Outcome) (t : Tally) → has_failures (counted_all outcomes t) ≡ (has_failures t || some_failed outcomes)
+pub failures_among : (outcomes : List Outcome) (t : Tally) → has_failures (counted_all outcomes t) ≡ (has_failures t || some_failed outcomes)
 failures_among [] t = sym (or_false (has_failures t))
 failures_among (outcome ∷ others) t =
     failures_among others (counted_as outcome t) ∙ ap (λ b. b || some_failed others) (counts_as outcome t)

@@ -9,3 +9,5 @@ pub mod Reading
 pub mod Seconds
 pub mod States
 pub mod Outcomes
+pub mod Said
+pub mod Shown

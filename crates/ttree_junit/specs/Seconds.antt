@@ -86,15 +86,16 @@ scaled_by number None = None
 abbrev pub scaled : List ℕ → List ℕ → Option ℕ
 scaled number power = scaled_by number (after_mark (codes "-") power)
 
-abbrev pub is_power : ℕ → Bool
-is_power byte = byte == 101
+abbrev pub is_exponent_mark : ℕ → Bool
+is_exponent_mark byte = byte == 101
 
 abbrev pub has_power : List ℕ → Bool
-has_power text = nat_lt (position_or_len is_power text) (length text)
+has_power text = nat_lt (position_or_len is_exponent_mark text) (length text)
 
 abbrev pub unsigned_of : List ℕ → Option ℕ
 unsigned_of text =
-    if has_power text then scaled (before_first is_power text) (after_first is_power text)
+    if has_power text
+    then scaled (before_first is_exponent_mark text) (after_first is_exponent_mark text)
     else plain text
 
 abbrev pub zero_or : List ℕ → Option (List ℕ) → Option ℕ

@@ -6,3 +6,6 @@ pub mod Queue
 pub mod Texts
 pub mod Tap
 pub mod Failures
+pub mod Rows
+pub mod Said
+pub mod Shown

@@ -13,14 +13,14 @@ use Rattle.ttree_tap.specs.Strings.{after_word, before_mark, dashless, first_wor
 
 -- ---- kinds
 
-abbrev pub holds_word : List ℕ → Bool
-holds_word rest = is_empty rest || begins (codes " ") rest
+abbrev pub ends_word : List ℕ → Bool
+ends_word rest = is_empty rest || begins (codes " ") rest
 
 -- `ok` or `not ok`, and then nothing or a space
 abbrev pub is_result : List ℕ → List ℕ → Bool
 is_result mark text = if_mark (after_mark mark text) where
   if_mark : Option (List ℕ) → Bool
-  if_mark (Some rest) = holds_word rest
+  if_mark (Some rest) = ends_word rest
   if_mark None = false
 
 -- nothing, or a comment
