@@ -5,6 +5,8 @@ mod Leaving
 mod LastInLane
 pub mod Interpreting
 pub mod Noting
+mod Reading
+mod Taking
 mod Worked
 mod WorkedLeaves
 mod WorkedEnds

@@ -1,11 +1,7 @@
 -- What a run noted of a trace so far.
-use Rattle.std.proofs.Common.{◌≡◌, ℕ, zero, suc, ◌+◌, ◌≤◌, Bool, true, false, List, [], ◌∷◌, ◌++◌, Option, length, take, drop, Result, Ok, Err, refl, sym, ap, subst, ◌∙◌, arith, append-nil, append_assoc, length-append}
+use Rattle.std.proofs.Common.{◌≡◌, ℕ, zero, suc, ◌+◌, ◌≤◌, Bool, true, false, List, [], ◌∷◌, ◌++◌, Option, length, take, Result, Ok, Err, refl, sym, ap, subst, ◌∙◌, arith, length-append}
 use Rattle.std.specs.Prelude.{IsErr, is_ok}
-use Rattle.std.proofs.lemmas.List.{take-append-drop}
-use Rattle.json.specs.Value.{items_view, value_view}
-use Rattle.ttree_chrome.specs.Element.{element_of}
-use Rattle.json.specs.declared.value.Value.{Value}
-use Rattle.ttree_chrome.specs.Notes.{IsNoted, counted_more, element_note, element_notes, item_count}
+use Rattle.ttree_chrome.specs.Notes.{IsNoted, counted_more}
 use Rattle.ttree_source.specs.Counts.{one_more}
 use Rattle.ttree_source.specs.Noted.{AddsNotes, Note}
 use Rattle.ttree_source.proofs.Noted.{adds_none, adds_then}
@@ -76,56 +72,6 @@ noted_then first second is_whole before middle after old now new h k =
       added = subst A (sym (take_then first second k.count)) (adds_then first (take k.count second) old now new here k.added);
       whole = λ w. ap (λ n. length first + n) (k.whole w) ∙ sym (length-append first second);
     }
-
--- a list has as many items as values
-pub items_counted : {A : Type 0} (values : List (Value A)) → item_count (items_view values) ≡ length values
-items_counted [] = refl
-items_counted (value ∷ others) = ap (λ n. n + 1) (items_counted others) ∙ omega arith
-
--- the notes of elements after elements
-pub notes_split : {A : Type 0} (number : ℕ) (first second : List (Value A)) →
-    element_notes number (items_view (first ++ second)) ≡ element_notes number (items_view first) ++ element_notes (number + length first) (items_view second)
-notes_split {A} number [] second =
-    let e : number ≡ number + length {A = Value A} [] = omega arith in
-    ap (λ n. element_notes n (items_view second)) e
-notes_split number (value ∷ others) second =
-    let e : number + 1 + length others ≡ number + length (value ∷ others) = omega arith in
-    let here : List Note = element_note number (element_of (value_view value)) in
-    ap (λ notes. here ++ notes) (notes_split (number + 1) others second)
-    ∙ sym (append_assoc here (element_notes (number + 1) (items_view others)) (element_notes (number + 1 + length others) (items_view second)))
-    ∙ ap (λ n. (here ++ element_notes (number + 1) (items_view others)) ++ element_notes n (items_view second)) e
-
--- the notes of one element more
-pub notes_more : {A : Type 0} (number : ℕ) (first : List (Value A)) (value : Value A) →
-    element_notes number (items_view (first ++ value ∷ []))
-    ≡ element_notes number (items_view first) ++ element_note (number + length first) (element_of (value_view value))
-notes_more number first value =
-    notes_split number first (value ∷ [])
-    ∙ ap (λ notes. element_notes number (items_view first) ++ notes) (append-nil (element_note (number + length first) (element_of (value_view value))))
-
-module _ {A : Type 0} (values : List (Value A)) where
-  -- one element more
-  pub noted_to : (n number : ℕ) (value : Value A) (is_whole : Bool) (before middle after : ℕ) (old now new : Option (List Note)) →
-      take (n + 1) values ≡ take n values ++ value ∷ [] → length (take n values) ≡ n → number ≡ 1 + n →
-      IsNoted (element_notes 1 (items_view (take n values))) true before middle old now →
-      IsNoted (element_note number (element_of (value_view value))) is_whole middle after now new →
-      IsNoted (element_notes 1 (items_view (take (n + 1) values))) is_whole before after old new
-  noted_to n number value is_whole before middle after old now new one long place h k =
-      let first : List (Value A) = take n values in
-      let N : List Note → Type 0 = λ notes. IsNoted notes is_whole before after old new in
-      let K : ℕ → Type 0 = λ i. IsNoted (element_note i (element_of (value_view value))) is_whole middle after now new in
-      let here : number ≡ 1 + length first = place ∙ ap (λ i. 1 + i) (sym long) in
-      subst N (sym (ap (λ vs. element_notes 1 (items_view vs)) one ∙ notes_more 1 first value))
-      (noted_then (element_notes 1 (items_view first)) (element_note (1 + length first) (element_of (value_view value))) is_whole before middle after old now new h (subst K here k))
-
-  -- the run ended among the first elements
-  pub noted_within : (n : ℕ) (before after : ℕ) (old new : Option (List Note)) →
-      IsNoted (element_notes 1 (items_view (take n values))) false before after old new → IsNoted (element_notes 1 (items_view values)) false before after old new
-  noted_within n before after old new h =
-      let N : List Note → Type 0 = λ notes. IsNoted notes false before after old new in
-      let split : values ≡ take n values ++ drop n values = sym (take-append-drop n values) in
-      subst N (sym (ap (λ vs. element_notes 1 (items_view vs)) split ∙ notes_split 1 (take n values) (drop n values)))
-      (noted_among (element_notes 1 (items_view (take n values))) (element_notes (1 + length (take n values)) (items_view (drop n values))) before after old new h)
 
 pub no_ok : {A E : Type 0} (result : Result A E) → IsErr result → is_ok result ≡ false
 no_ok (Ok value) h = cc

@@ -1,8 +1,12 @@
 -- The elements that a string has as a trace.
-use Rattle.std.specs.Prelude.{ℕ, ◌+◌, ◌==◌, ◌||◌, Bool, true, false, if◌then◌else◌, List, [], ◌∷◌, ◌++◌, length, take, drop, flat_map, Option, Some, None, codes}
-use Rattle.json.specs.Json.{Json, null, boolean, number, string, array, object, Items}
+use Rattle.std.specs.Prelude.{◌≡◌, ℕ, ◌+◌, ◌==◌, ◌||◌, Bool, true, false, if◌then◌else◌, List, [], ◌∷◌, ◌++◌, length, take, drop, flat_map, Option, Some, None, option_and_then, bytes_eq, codes}
+use Rattle.json.specs.Find.{InItems, InMembers, as_array, as_object, get_member}
+use Rattle.json.specs.Json.{Json, null, boolean, number, string, array, object, Items, Members, no_members, member}
+use Rattle.json.specs.Token.{Token}
 use Rattle.ttree_source.specs.Blanks.{first_byte, is_blank}
 use Rattle.ttree_source.specs.Values.{array_at}
+use Rattle.ttree_chrome.specs.declared.text.Opening.{Opening}
+use Rattle.ttree_chrome.specs.declared.text.Opening.TheVariants.{Array, Object, Other}
 use Rattle.ttree_chrome.specs.declared.text.Bracket.{Bracket}
 use Rattle.ttree_chrome.specs.declared.text.Bracket.TheVariants.{Square, Curly}
 
@@ -16,6 +20,49 @@ elements_in (number _) = None
 elements_in (string _) = None
 elements_in (array items) = Some items
 elements_in (object members) = array_at (codes "traceEvents") (object members)
+
+-- ---- the tokens of the elements
+
+-- what follows the first token of a value
+abbrev pub Opens : Json → Opening → List Token → Type 0
+Opens value Array tokens = (items : Items) × (value ≡ array items) × InItems tokens items
+Opens value Object tokens = (members : Members) × (value ≡ object members) × InMembers tokens members
+Opens value Other tokens = (as_array value ≡ None) × (as_object value ≡ None)
+
+-- the tokens that follow are these elements, if there are any
+abbrev pub Lists : Option Items → Option (List Token) → Type 0
+Lists elements None = elements ≡ None
+Lists elements (Some tokens) = (items : Items) × (elements ≡ Some items) × InItems tokens items
+
+-- the same of a value that may not be a list of elements
+abbrev pub IsAtList : Option Json → Bool → List Token → Type 0
+IsAtList value true tokens = Lists (option_and_then as_array value) (Some tokens)
+IsAtList value false tokens = Lists (option_and_then as_array value) None
+
+abbrev pub is_list_key : List ℕ → Bool
+is_list_key key = bytes_eq key (codes "traceEvents")
+
+-- how many members have the key of the elements
+abbrev pub lists_among : Members → ℕ
+lists_among no_members = 0
+lists_among (member key value others) =
+    (if is_list_key key then 1 else 0) + lists_among others
+
+-- the last of them
+abbrev pub list_among : Members → Option Json
+list_among members = get_member (codes "traceEvents") members
+
+abbrev pub lists_in : Json → ℕ
+lists_in null = 0
+lists_in (boolean _) = 0
+lists_in (number _) = 0
+lists_in (string _) = 0
+lists_in (array _) = 0
+lists_in (object members) = lists_among members
+
+abbrev pub list_count : Option Json → ℕ
+list_count None = 0
+list_count (Some value) = lists_in value
 
 -- ---- the part of a string that is read
 

@@ -1,6 +1,6 @@
 //! Collects the elements of a trace.
 
-ghost use Rattle.std.specs.Prelude.{◌≡◌, ◌∷◌, ◌++◌, [], ◌<◌, length, IfOk, IfSome, OnOk, IsPermutation, IsSorted};
+ghost use Rattle.std.specs.Prelude.{◌≡◌, ◌∷◌, ◌++◌, [], ◌<◌, length, IfNone, IfOk, IfSome, OnOk, IsPermutation, IsSorted, option_to_list};
 ghost use Rattle.ttree_chrome.specs.Gather.{began, drawn, entry_placed, gathered_one, happened, item_cmp, item_of, lane_of, lane_span_ended, last_in, none_later, nothing_gathered, on_track, owned, process_named, process_of, same_lane, thread_named, tracked, tracked_as, undrawn_one, whole};
 
 use crate::element::{Element, Entry, Owner, Track};
@@ -300,6 +300,18 @@ pub(crate) fn in_order(items: Vec<Item>, begun: Vec<Item>) -> Result<Vec<Item>, 
     items.append(&mut begun)?;
     sort(&mut items)?;
     Ok(items)
+}
+
+// Takes the last of these items. Frees the space of those that were taken, once it is most of it.
+pub(crate) fn take_last(items: &mut Vec<Item>) -> Option<Item>
+    ensures rest { items.old.items ≡ items.new.items ++ option_to_list result }
+    ensures none { IfNone result (items.old.items ≡ []) }
+{
+    let last = items.pop();
+    if items.len() < items.capacity() / 2 {
+        items.shrink_to_fit();
+    }
+    last
 }
 
 fn sort(items: &mut Vec<Item>) -> Result<(), AllocError>

@@ -3,7 +3,7 @@
 ghost use Rattle.std.specs.Prelude.{◌≡◌, IfOk, reverse};
 ghost use Rattle.ttree_chrome.specs.Later.{first_of, is_long_item, later_by, marked, with_later};
 
-use crate::gather::{Item, Later, Shape, none_later, same_lane};
+use crate::gather::{Item, Later, Shape, none_later, same_lane, take_last};
 use std::alloc::{AllocError, Global};
 
 // Returns whether an item is drawn, given the shortest span that is drawn.
@@ -26,7 +26,7 @@ pub(crate) fn marked(
 {
     let mut items = items;
     let mut all = Vec::with_capacity(alloc, items.len())?;
-    while let Some(item) = items.pop() {
+    while let Some(item) = take_last(&mut items) {
         let later = later_by(&item, all.as_slice(), min_duration);
         all.push(noted(item, later))?;
     }

@@ -1,24 +1,121 @@
 //! The elements of a trace's JSON.
 
-ghost use Rattle.std.specs.Prelude.{◌≡◌, ◌++◌, IfOk, OnOk, flat_map, option_map, reverse, string_bytes};
-ghost use Rattle.json.specs.Value.{items_view, value_view};
-ghost use Rattle.ttree_chrome.specs.Text.{bracket_closed, bracket_opened, byte_read, closer, element_depth, elements_in, has_more, is_closing, is_cut, mended, nothing_read, place_noted, read_in_text, read_outside, scan_of};
+ghost use Rattle.std.specs.Prelude.{◌≡◌, ◌++◌, IfOk, IsSome, OnOk, Some, flat_map, option_and_then, reverse, string_bytes};
+ghost use Rattle.json.specs.Find.{BeginsWith, InMembers};
+ghost use Rattle.json.specs.Json.{Json, Members, document};
+ghost use Rattle.ttree_chrome.specs.Text.{IsAtList, Lists, Opens, bracket_closed, bracket_opened, byte_read, closer, element_depth, elements_in, has_more, is_closing, is_cut, is_list_key, list_among, list_count, lists_among, mended, nothing_read, place_noted, read_in_text, read_outside, scan_of};
 
-use json::Value;
+use json::{Error, MAX_DEPTH, Reader, Scratch, Token};
 use std::alloc::{AllocError, Global};
 use std::marker::Model;
 use tracing_tree_base::text::Text;
 use ttree_source::blanks::{first_byte, is_blank};
-use ttree_source::values::array_at;
 
-// Returns the elements that a value lists.
-pub(crate) fn elements_in<'v, 'a>(value: &'v Value<'a>) -> Option<&'v Vec<Value<'a>>>
-    ensures { option_map (λ items. items_view items.now.items) result
-        ≡ elements_in (value_view value.now) }
+// Returns a reader of the elements that a JSON value lists. `None` if it isn't a trace. An error
+// means that memory ran out.
+pub(crate) fn elements_of<'a>(
+    text: &'a str,
+    scratch: &'a mut Scratch,
+) -> Result<Option<Reader<'a>>, Error>
+    requires valid { IsSome (document text.now) }
+    ensures { IfOk result (λ found. Lists (option_and_then elements_in (document text.now)) found) }
 {
-    match value {
-        Value::Array(items) => Some(items),
-        _ => array_at(value, "traceEvents"),
+    let count = list_count(text, scratch)?;
+    let mut reader = Reader::new(text, scratch)?;
+    let is_list = match enter(&mut reader) {
+        Opening::Array => true,
+        Opening::Object => find_list(&mut reader, count)?,
+        Opening::Other => false,
+    };
+    if is_list { Ok(Some(reader)) } else { Ok(None) }
+}
+
+// Returns how many members of an object may list elements. The last one counts.
+fn list_count(text: &str, scratch: &mut Scratch) -> Result<usize, Error>
+    requires valid { IsSome (document text.now) }
+    ensures { IfOk result (λ count. count ≡ list_count (document text.now)) }
+{
+    let mut reader = Reader::new(text, scratch)?;
+    match enter(&mut reader) {
+        Opening::Object => count_lists(&mut reader),
+        Opening::Array | Opening::Other => Ok(0),
+    }
+}
+
+// Returns how many of the members up to the object's end may list elements.
+fn count_lists(reader: &mut Reader<'_>) -> Result<usize, Error>
+    ensures { (all : Members) → InMembers reader.old all
+        → IfOk result (λ count. count ≡ lists_among all) }
+{
+    let mut count: usize = 0;
+    while let Some(key) = reader.next_key()? {
+        if is_list_key(key) {
+            count = count.checked_add(1).ok_or(Error::TooLong)?;
+        }
+        reader.skip_value(MAX_DEPTH)?;
+    }
+    Ok(count)
+}
+
+// Goes to the first element in the last of `count` members that may list elements. Returns whether
+// that is a list.
+fn find_list(reader: &mut Reader<'_>, count: usize) -> Result<bool, Error>
+    ensures { (all : Members) → InMembers reader.old all → count ≡ lists_among all
+        → IfOk result (λ is_list. IsAtList (list_among all) is_list reader.new) }
+{
+    let mut left = count;
+    while left > 0 {
+        let Some(key) = reader.next_key()? else {
+            return Err(Error::Invalid);
+        };
+        if is_list_key(key) {
+            left -= 1;
+            if left == 0 {
+                return Ok(enter_list(reader));
+            }
+        }
+        reader.skip_value(MAX_DEPTH)?;
+    }
+    Ok(false)
+}
+
+// Returns whether an object's member with this key may list elements.
+fn is_list_key(key: &str) -> bool
+    ensures { result ≡ is_list_key key.now }
+{
+    key == "traceEvents"
+}
+
+// Goes to the first element in the value that follows. Returns whether that is a list.
+fn enter_list(reader: &mut Reader<'_>) -> bool
+    ensures { (value : Json) → BeginsWith reader.old value → IsAtList (Some value) result reader.new }
+{
+    match enter(reader) {
+        Opening::Array => true,
+        Opening::Object | Opening::Other => false,
+    }
+}
+
+// What the first token of a value opens.
+#[derive(Clone, Copy)]
+enum Opening {
+    Array,
+    Object,
+    // It is another value.
+    Other,
+}
+
+// Takes the first token of a value.
+fn enter(reader: &mut Reader<'_>) -> Opening
+    ensures { (value : Json) → BeginsWith reader.old value → Opens value result reader.new }
+{
+    let Some(first) = reader.next() else {
+        return Opening::Other;
+    };
+    match first {
+        Token::BeginArray => Opening::Array,
+        Token::BeginObject => Opening::Object,
+        _ => Opening::Other,
     }
 }
 

@@ -1,20 +1,22 @@
 //! Traces in Chrome's trace event format.
 
-ghost use Rattle.std.specs.Prelude.{◌≡◌, [], ◌∷◌, IfErr, IfOk, MatchResult, OnOk, Some, is_none, is_ok, true};
-ghost use Rattle.json.specs.Value.{items_view, value_view};
+ghost use Rattle.std.specs.Prelude.{◌≡◌, [], ◌∷◌, IfErr, IfOk, IsSome, MatchResult, OnOk, Some, is_none, is_ok, option_and_then, true};
+ghost use Rattle.json.specs.Find.{InItems};
+ghost use Rattle.json.specs.Json.{Items, document};
+ghost use Rattle.json.specs.Value.{value_view};
 ghost use Rattle.tracing_tree_layer.specs.Layer.Layers.{seen, Changes};
-ghost use Rattle.ttree_chrome.specs.Trace.{AreCallsOf, DrawsOrEnds, EndsInterpreting, EndsReading, RunsTrace, ended_run, interpreted_all, interpreted_as, interpreted_cut, interpreted_from, interpreted_in, interpreted_mended, interpreted_unknown, interpreted_value, nothing_interpreted_of};
+ghost use Rattle.ttree_chrome.specs.Trace.{AreCallsOf, DrawsOrEnds, EndsInterpreting, EndsReading, RunsTrace, ended_run, interpreted_all, interpreted_as, interpreted_cut, interpreted_from, interpreted_in, interpreted_mended, interpreted_unknown, interpreted_value_or, nothing_interpreted_of};
 ghost use Rattle.ttree_chrome.specs.Element.{element_of};
 ghost use Rattle.ttree_chrome.specs.Text.{elements_in};
-ghost use Rattle.ttree_chrome.specs.Notes.{IsNoted, cut_notes, element_note, element_notes, mended_notes, notes_in, trace_notes};
+ghost use Rattle.ttree_chrome.specs.Notes.{IsNoted, cut_notes, element_note, element_notes, item_count, mended_notes, notes_in, trace_notes};
 ghost use Rattle.ttree_source.specs.Noted.{Note};
 
 use crate::element::element_of;
 use crate::gather::{Gathered, in_order};
 use crate::leaves::Leaves;
-use crate::text::{elements_in, mended};
+use crate::text::{elements_of, mended};
 use crate::tree::{Names, Tree, clock_start};
-use json::{Scratch, Value};
+use json::{MAX_DEPTH, Reader, Scratch, Value, is_valid};
 use std::alloc::{AllocError, Global};
 use tracing_tree_layer::call::Call;
 use tracing_tree_layer::layered::Layered;
@@ -24,7 +26,6 @@ use tracing_tree_time::{FormatTime, Moment};
 use ttree_source::cut::Cut;
 use ttree_source::notes::{Notes, Problem};
 use ttree_source::run::{SourceRun, draw_calls, skip};
-use ttree_source::values::value_of;
 
 // What was read of a trace so far.
 #[derive(Drop)]
@@ -241,10 +242,11 @@ fn interpret<N: Notes>(
         (N.noted notes.old) (N.noted notes.new) }
 {
     let mut scratch = Scratch::new(alloc);
-    match value_of(alloc, text, &mut scratch)? {
-        Some(value) => interpreted.take_value(alloc, &value, false, notes),
-        None => interpret_mended(alloc, text, interpreted, notes),
+    if is_valid(text, &mut scratch)? {
+        return interpreted.take_text(alloc, text, &mut scratch, false, notes);
     }
+    drop(scratch);
+    interpret_mended(alloc, text, interpreted, notes)
 }
 
 // Reads the elements of a truncated trace.
@@ -262,11 +264,12 @@ fn interpret_mended<N: Notes>(
         interpreted.new.unknown (N.noted notes.old) (N.noted notes.new) }
 {
     let mended = mended(alloc, text)?;
+    let text = mended.text.as_str();
     let mut scratch = Scratch::new(alloc);
-    match value_of(alloc, mended.text.as_str(), &mut scratch)? {
-        Some(value) => interpreted.take_value(alloc, &value, mended.is_cut, notes),
-        None => interpreted.lose(1, Problem::Trace, notes),
+    if !is_valid(text, &mut scratch)? {
+        return interpreted.lose(1, Problem::Trace, notes);
     }
+    interpreted.take_text(alloc, text, &mut scratch, mended.is_cut, notes)
 }
 
 impl Interpreted {
@@ -279,47 +282,62 @@ impl Interpreted {
         }
     }
 
-    // Reads the elements of a value. If it was truncated, one more element is lost.
+    // Reads the elements of a JSON value, one at a time. If it was truncated, one more element is
+    // lost.
     #[tactic(auto, using(crate::proofs::Interpreting::ends_before_cut, crate::proofs::Noting::noted_among, crate::proofs::Noting::noted_one, crate::proofs::Noting::noted_then))]
-    fn take_value<N: Notes>(
+    fn take_text<N: Notes>(
         &mut self,
         alloc: Global,
-        value: &Value<'_>,
+        text: &str,
+        scratch: &mut Scratch,
         is_cut: bool,
         notes: &mut N,
     ) -> Result<(), LineCause>
-        ensures interpreted { OnOk result (self.new ≡ interpreted_value is_cut (value_view value.now) self.old) }
+        requires valid { IsSome (document text.now) }
+        ensures interpreted { OnOk result (self.new ≡ interpreted_value_or is_cut (document text.now) self.old) }
         ensures ended { IfErr result (λ cause. EndsInterpreting cause self.new
-            (interpreted_value is_cut (value_view value.now) self.old)) }
-        ensures noted { IsNoted (trace_notes is_cut (elements_in (value_view value.now)))
+            (interpreted_value_or is_cut (document text.now) self.old)) }
+        ensures noted { IsNoted (trace_notes is_cut (option_and_then elements_in (document text.now)))
             (is_ok result) self.old.unknown self.new.unknown (N.noted notes.old)
             (N.noted notes.new) }
     {
-        let Some(elements) = elements_in(value) else {
+        let Ok(found) = elements_of(text, scratch) else {
+            return Err(LineCause::Memory);
+        };
+        let Some(mut elements) = found else {
             return self.lose(1, Problem::Trace, notes);
         };
-        self.take_all(alloc, elements, notes)?;
-        self.lose_cut(is_cut, elements.len(), notes)
+        let count = self.take_all(alloc, &mut elements, notes)?;
+        self.lose_cut(is_cut, count, notes)
     }
 
+    // Reads the elements up to the end of their array, and returns how many there are.
     fn take_all<N: Notes>(
         &mut self,
         alloc: Global,
-        elements: &Vec<Value<'_>>,
+        elements: &mut Reader<'_>,
         notes: &mut N,
-    ) -> Result<(), LineCause>
-        ensures interpreted { OnOk result (self.new ≡ interpreted_all (items_view elements.now.items) self.old) }
-        ensures ended { IfErr result (λ cause. EndsInterpreting cause self.new
-            (interpreted_all (items_view elements.now.items) self.old)) }
-        ensures noted { IsNoted (element_notes 1 (items_view elements.now.items)) (is_ok result)
-            self.old.unknown self.new.unknown (N.noted notes.old) (N.noted notes.new) }
+    ) -> Result<u64, LineCause>
+        ensures interpreted { (all : Items) → InItems elements.old all
+            → OnOk result (self.new ≡ interpreted_all all self.old) }
+        ensures ended { (all : Items) → InItems elements.old all
+            → IfErr result (λ cause. EndsInterpreting cause self.new (interpreted_all all self.old)) }
+        ensures noted { (all : Items) → InItems elements.old all
+            → IsNoted (element_notes 1 all) (is_ok result) self.old.unknown self.new.unknown
+            (N.noted notes.old) (N.noted notes.new) }
+        ensures count { (all : Items) → InItems elements.old all
+            → IfOk result (λ count. count ≡ item_count all) }
     {
-        let mut number: u64 = 0;
-        for element in elements {
-            number = number.saturating_add(1);
-            self.take(alloc, element, number, notes)?;
+        for number in 1..u64::MAX {
+            if elements.take_end_array() {
+                return Ok(number - 1);
+            }
+            let Ok(element) = Value::read(alloc, elements, MAX_DEPTH) else {
+                return Err(LineCause::Memory);
+            };
+            self.take(alloc, &element, number, notes)?;
         }
-        Ok(())
+        Err(LineCause::Memory)
     }
 
     // Reads one element.
@@ -350,7 +368,7 @@ impl Interpreted {
     fn lose_cut<N: Notes>(
         &mut self,
         is_cut: bool,
-        count: usize,
+        count: u64,
         notes: &mut N,
     ) -> Result<(), LineCause>
         ensures interpreted { OnOk result (self.new ≡ interpreted_cut is_cut self.old) }
@@ -362,7 +380,7 @@ impl Interpreted {
         if !is_cut {
             return Ok(());
         }
-        let last = (count as u64).saturating_add(1);
+        let last = count.saturating_add(1);
         self.lose(last, Problem::Object, notes)
     }
 

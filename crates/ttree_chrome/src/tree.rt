@@ -5,7 +5,7 @@ ghost use Rattle.ttree_source.specs.Calls.{message_field};
 ghost use Rattle.ttree_chrome.specs.Later.{marked};
 ghost use Rattle.ttree_chrome.specs.Tree.{with_left_out, at_moment, begun_tree, clock_start, closed_or_leaf, counted_until, current, current_end, lane_entered, entered_process, entered_thread, event_shown, trace_event_emitted, extent, trace_finished, fits_depth, frame_of, is_by, is_in_process, is_lane, is_left, is_of_lane, lane_opened, leaf_call, leaving, leaving_count, frame_left, span_left_out, left_out_emitted, left_while, length_field, may_be_leaf, moment_at, lane_name, span_opened, passed_over, item_placed, process_depth, process_opened, put, settled, shown_lane, span_end, duration_fields, span_placed, span_put, item_span_shown, item_stepped, stepped_all, trace_call_emitted, emitted_name, within};
 
-use crate::gather::{Item, Lane, Name, Point, Shape, process_of, same_lane};
+use crate::gather::{Item, Lane, Name, Point, Shape, process_of, same_lane, take_last};
 use crate::later::{is_long, marked};
 use crate::leaves::Leaves;
 use crate::number::ZERO;
@@ -156,7 +156,7 @@ impl Tree {
         ensures { OnOk result (self.new ≡ stepped_all (reverse items.items) self.old) }
     {
         let mut items = items;
-        while let Some(item) = items.pop() {
+        while let Some(item) = take_last(&mut items) {
             self.step(item)?;
         }
         Ok(())
