@@ -1,23 +1,21 @@
 //! A document of JUnit XML shown.
 
+use crate::document::{DocumentRead, Whole, make_document};
 use crate::input::Head;
 use crate::options::Options;
 use crate::output::output;
 use crate::page::write_read;
 use crate::report::{Origin, Reporter, Status, Unit, report_run};
-use crate::shown::{Subject, shown_calls};
+use crate::shown::{Subject, shape, summary_of};
 use crate::summary::print_summary;
 use crate::tree::{fault_of_document, layered, some_moment};
 use std::alloc::{AllocError, Global};
 use std::io;
 use tracing_tree::call::Call;
-use tracing_tree::lines::LineCause;
 use ttree_adapters::{FailureLines, Mapping};
-use ttree_chrome::TraceCalls;
 use ttree_junit::{JunitCalls, Selection, junit_calls};
 use ttree_source::SourceRun;
 use ttree_source::level::is_shown;
-use ttree_source::run::make;
 
 // Shows a document of JUnit XML. The status is 1 also if a case failed, if the document ends early,
 // or if there is no report.
@@ -94,23 +92,22 @@ fn show<R: AllocGlobal + Eprint + Print>(
     let calls = calls_shown(rt.alloc(), junit, options)?;
     let reporter = Reporter::new(rt, origin, Unit::Element, options.is_strict);
     if let Some(form) = options.form {
-        let read = TraceCalls {
-            calls: Ok(calls),
+        let read = DocumentRead {
+            document: Ok(Whole::from(calls)),
             unknown: 0,
-            undrawn: 0,
         };
         return write_read(rt, origin, head, read, form, &reporter, options);
     }
     let alloc = rt.alloc();
-    let (calls, summary) = shown_calls(alloc, calls, Subject::Report, options)?;
+    let mut shape = shape(alloc, Subject::Report, options);
     let writer = output(alloc, io::writer(rt), options.shaping())?;
     let config = options.config().with_deferred_spans(true);
     let mut layered = layered(alloc, config, writer);
-    let fault = match make(calls, &mut layered) {
+    let fault = match make_document(alloc, Whole::from(calls), &mut shape, &mut layered) {
         Ok(()) => None,
-        Err(refusal) => Some(fault_of_document(LineCause::Refused(refusal))),
+        Err(cause) => Some(fault_of_document(cause)),
     };
     let run = SourceRun { unknown: 0, fault };
     let status = report_run(&run, layered, &reporter);
-    Ok(status.worse(print_summary(rt, origin, status, summary)?))
+    Ok(status.worse(print_summary(rt, origin, status, summary_of(shape))?))
 }

@@ -1,6 +1,7 @@
 //! The program `ttree`: another tool's output drawn as a tree.
 #![tactic(auto)]
 
+mod document;
 mod draw;
 mod found;
 mod input;

@@ -169,14 +169,14 @@ impl<'a> Options<'a> {
 
     // Returns what --fields shows of tracing's lines.
     pub fn line_fields(&self, alloc: Global) -> Result<Option<LineFields>, AllocError> {
-        let Some(words) = &self.fields else {
+        let Some(fields) = &self.fields else {
             return Ok(None);
         };
         let mut members = Vec::new(alloc);
-        for word in words.iter().copied() {
+        for field in fields.iter().copied() {
             members.push(Member {
-                key: Text::from_str(alloc, key_of(word))?,
-                name: Text::from_str(alloc, word)?,
+                key: Text::from_str(alloc, key_of(field))?,
+                name: Text::from_str(alloc, field)?,
             })?;
         }
         Ok(Some(LineFields::new(alloc, members)))
@@ -200,15 +200,15 @@ impl<'a> Options<'a> {
 
     // Returns the given options that select what is shown of OTLP, or an empty string without any.
     pub fn selecting(&self, alloc: Global) -> Result<String, AllocError> {
-        let mut words = String::new(alloc);
+        let mut options = String::new(alloc);
         for option in SELECTING {
             if self.given.iter().any(|given| *given == option) {
-                let mark = if words.is_empty() { "--" } else { ", --" };
-                words.push_str(mark)?;
-                words.push_str(option)?;
+                let mark = if options.is_empty() { "--" } else { ", --" };
+                options.push_str(mark)?;
+                options.push_str(option)?;
             }
         }
-        Ok(words)
+        Ok(options)
     }
 
     // Returns an option that is given and has no meaning without a drawing.
@@ -299,7 +299,7 @@ pub fn parse<'a>(
         },
         times: matches.get_str("times").map(precision_of),
         is_full: matches.get_flag("full"),
-        fields: words(alloc, &matches, "fields")?,
+        fields: values(alloc, &matches, "fields")?,
         has_summary: matches.get_flag("summary"),
         form: form(alloc, &matches, files.len())?,
         title: matches.get_str("title"),
@@ -341,19 +341,19 @@ fn files<'a>(alloc: Global, matches: &ArgMatches<'a>) -> Result<Vec<&'a str>, Al
 }
 
 // Returns the values of an option, if it is given.
-fn words<'a>(
+fn values<'a>(
     alloc: Global,
     matches: &ArgMatches<'a>,
     option: &str,
 ) -> Result<Option<Vec<&'a str>>, AllocError> {
-    let Some(values) = matches.get_strs(option) else {
+    let Some(given) = matches.get_strs(option) else {
         return Ok(None);
     };
-    let mut words = Vec::new(alloc);
-    for value in values {
-        words.push(*value)?;
+    let mut values = Vec::new(alloc);
+    for value in given {
+        values.push(*value)?;
     }
-    Ok(Some(words))
+    Ok(Some(values))
 }
 
 // Returns the given options, of those that only some formats have.
@@ -430,7 +430,7 @@ fn with_rows<'a>(alloc: Global, command: Command<'a>) -> Result<Command<'a>, All
         .arg(flag(
             alloc,
             "full",
-            "Shows arrays and objects whole, also beyond 200 characters",
+            "Shows arrays and objects whole, also beyond 200 columns",
         ))?
         .arg(fields_option(alloc))?
         .arg(flag(

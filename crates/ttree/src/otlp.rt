@@ -1,5 +1,6 @@
 //! Traces and logs of OTLP shown.
 
+use crate::document::DocumentRead;
 use crate::input::{Head, read_through, whole_characters};
 use crate::options::Options;
 use crate::page::write_read;
@@ -9,10 +10,8 @@ use crate::tree::{draw_read, some_moment};
 use std::alloc::{AllocError, Global};
 use std::io::BufReader;
 use std::str::from_utf8;
-use tracing_tree::call::Call;
 use tracing_tree::lines::{BLOCK, LineCause};
-use ttree_chrome::TraceCalls;
-use ttree_otlp::{OtlpCalls, otlp_calls};
+use ttree_otlp::{OtlpRead, OtlpTree, read_otlp};
 use ttree_source::{Notes, Problem};
 
 // Shows traces and logs of OTLP. Lines that aren't UTF-8 are skipped.
@@ -107,18 +106,17 @@ fn show<R: AllocGlobal + Eprint + Print>(
     let alloc = rt.alloc();
     let mut reporter = reporter;
     let selection = options.selection(alloc)?;
-    let read = otlp_calls(alloc, 1, some_moment(), &selection, text, &mut reporter);
-    let OtlpCalls { calls, unknown } = read;
-    if is_nothing(&calls) {
+    let read = read_otlp(alloc, 1, some_moment(), &selection, text, &mut reporter);
+    let OtlpRead { tree, unknown } = read;
+    if is_nothing(&tree) {
         let selecting = options.selecting(alloc)?;
         if !selecting.is_empty() {
             let _ = eprintln!(rt; "{origin}nothing is selected by {selecting}");
         }
     }
-    let read = TraceCalls {
-        calls,
+    let read = DocumentRead {
+        document: tree,
         unknown,
-        undrawn: 0,
     };
     match options.form {
         Some(form) => write_read(rt, origin, head, read, form, &reporter, options),
@@ -135,9 +133,9 @@ fn show<R: AllocGlobal + Eprint + Print>(
 }
 
 // Returns whether there is nothing to draw.
-fn is_nothing(calls: &Result<Vec<Call>, LineCause>) -> bool {
-    match calls {
-        Ok(calls) => calls.is_empty(),
+fn is_nothing(tree: &Result<OtlpTree, LineCause>) -> bool {
+    match tree {
+        Ok(tree) => tree.is_empty(),
         Err(_) => false,
     }
 }

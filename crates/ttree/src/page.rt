@@ -1,19 +1,20 @@
 //! An input written as a page, or as lines of JSON.
 
+use crate::document::{Document, DocumentRead, make_document};
 use crate::input::Head;
 use crate::options::Options;
 use crate::output::{Output, UNCHANGED, output};
 use crate::report::{Origin, Reporter, Status, Unit, report_undrawn, report_written};
-use crate::tree::{after_lines, first_line, read_trace, refuse_settings, some_moment};
+use crate::tree::{after_lines, first_line, read_trace, refuse_settings, some_moment, whole};
 use std::alloc::{AllocError, Global};
 use std::io;
 use std::io::{BufReader, Printer, Read, Write};
 use std::str::from_utf8;
 use tracing_tree::format::Wrap;
 use tracing_tree::lines::{BLOCK, LineCause, LineFault, is_settings};
+use ttree_adapters::OneRow;
 use ttree_chrome::{Leaves, TraceCalls};
 use ttree_page::{LineForm, StepWriter};
-use ttree_source::run::make;
 use ttree_source::{AtLeast, CallLines, Plain, Source, SourceRun, run_source};
 use ttree_viewer::{HEAD, TAIL};
 
@@ -95,25 +96,33 @@ pub fn write_trace<R: AllocGlobal + Eprint + Print>(
 ) -> Result<Status, AllocError> {
     let mut reporter = Reporter::new(rt, origin, Unit::Element, options.is_strict);
     let read = read_trace(rt.alloc(), Leaves::Spans, text, options, &mut reporter);
-    let undrawn = read.undrawn;
+    let TraceCalls {
+        unknown,
+        calls,
+        undrawn,
+    } = read;
+    let read = DocumentRead {
+        document: whole(calls),
+        unknown,
+    };
     let status = write_read(rt, origin, head, read, form, &reporter, options)?;
     report_undrawn(rt, origin, undrawn, status);
     Ok(status)
 }
 
 // Writes what was read of a whole document, and the lines before it first.
-pub fn write_read<R: AllocGlobal + Eprint + Print>(
+pub fn write_read<R: AllocGlobal + Eprint + Print, D: Document>(
     rt: &R,
     origin: Origin<'_>,
     head: &Head,
-    read: TraceCalls,
+    read: DocumentRead<D>,
     form: LineForm,
     reporter: &Reporter<'_, R>,
     options: &Options<'_>,
 ) -> Result<Status, AllocError> {
     let (mut steps, begun) = begin(rt, origin, head, form, options)?;
     let run = match begun {
-        None => write_calls(read, &mut steps),
+        None => write_document(rt.alloc(), read, &mut steps),
         Some(cause) => ended(read.unknown, cause),
     };
     Ok(finish(run, steps, form, reporter))
@@ -158,23 +167,23 @@ fn write_preamble<R: AllocGlobal + Eprint, W: Write + Drop>(
     )
 }
 
-// Writes the calls of a trace.
-fn write_calls<W: Write + Drop>(read: TraceCalls, steps: &mut Steps<W>) -> SourceRun {
-    let TraceCalls {
-        unknown,
-        calls,
-        undrawn: _,
-    } = read;
-    let calls = match calls {
-        Ok(calls) => calls,
+// Writes the calls of a document.
+fn write_document<D: Document, W: Write + Drop>(
+    alloc: Global,
+    read: DocumentRead<D>,
+    steps: &mut Steps<W>,
+) -> SourceRun {
+    let DocumentRead { document, unknown } = read;
+    let document = match document {
+        Ok(document) => document,
         Err(cause) => return ended(unknown, cause),
     };
-    match make(calls, steps) {
+    match make_document(alloc, document, &mut None::<OneRow>, steps) {
         Ok(()) => SourceRun {
             unknown,
             fault: None,
         },
-        Err(refusal) => ended(unknown, LineCause::Refused(refusal)),
+        Err(cause) => ended(unknown, cause),
     }
 }
 

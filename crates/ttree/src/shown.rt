@@ -2,11 +2,8 @@
 
 use crate::options::Options;
 use crate::summary::Summary;
-use std::alloc::{AllocError, Global};
-use tracing_tree::call::Call;
-use ttree_adapters::{
-    Mapped, Mapping, OneRow, RowClock, ShortValues, Then, TimeColumns, TimeStyle,
-};
+use std::alloc::Global;
+use ttree_adapters::{Mapped, OneRow, RowClock, ShortValues, Then, TimeColumns, TimeStyle};
 
 // What is drawn: it decides the clock of the rows, and how a line end in a span's name or field is
 // shown.
@@ -61,18 +58,6 @@ pub fn shown<S>(alloc: Global, source: S, subject: Subject, options: &Options<'_
     Mapped::new(source, shape(alloc, subject, options))
 }
 
-// Returns what is shown of a document's calls, and the summary.
-pub fn shown_calls(
-    alloc: Global,
-    calls: Vec<Call>,
-    subject: Subject,
-    options: &Options<'_>,
-) -> Result<(Vec<Call>, Option<Summary>), AllocError> {
-    let mut shape = shape(alloc, subject, options);
-    let calls = shape.map(alloc, None, calls)?;
-    Ok((calls, summary_of(shape)))
-}
-
 // Returns the summary of the calls that were shown, under --summary.
 pub fn summary_of(shape: Shape) -> Option<Summary> {
     let (first, rest) = shape.into_parts();
@@ -82,7 +67,8 @@ pub fn summary_of(shape: Shape) -> Option<Summary> {
     summary
 }
 
-fn shape(alloc: Global, subject: Subject, options: &Options<'_>) -> Shape {
+// Returns what is shown of calls.
+pub fn shape(alloc: Global, subject: Subject, options: &Options<'_>) -> Shape {
     let clock = subject.clock();
     let has_summary = options.has_summary && subject != Subject::Preamble;
     let summary = has_summary.then(|| -> Summary { Summary::new(alloc, clock) });

@@ -1,12 +1,13 @@
 //! An input drawn as a tree.
 
+use crate::document::{Document, DocumentRead, Whole, make_document};
 use crate::input::Head;
 use crate::options::Options;
 use crate::output::{Flush, output};
 use crate::report::{
     Origin, Reporter, Status, Unit, report, report_run, report_undrawn, report_unread,
 };
-use crate::shown::{Subject, shown, shown_calls, summary_of};
+use crate::shown::{Subject, shape, shown, summary_of};
 use crate::summary::{Summary, print_summary};
 use jiff::Timestamp;
 use json::{Scratch, Value};
@@ -14,6 +15,7 @@ use std::alloc::{AllocError, Global};
 use std::io;
 use std::io::{BufReader, Read, Write};
 use std::str::from_utf8;
+use tracing_tree::call::Call;
 use tracing_tree::format::{Config, Wrap};
 use tracing_tree::layer::HierarchicalLayer;
 use tracing_tree::layered::Layered;
@@ -21,7 +23,6 @@ use tracing_tree::lines::{BLOCK, LineCause, LineFault, settings_of_line};
 use tracing_tree::time::Moment;
 use ttree_adapters::{Mapping, OneRowCalls, RowClock};
 use ttree_chrome::{Leaves, TraceCalls, trace_calls};
-use ttree_source::run::make;
 use ttree_source::values::value_of;
 use ttree_source::{CallLines, Notes, Problem, Source, SourceRun, draw_source, run_source};
 use ttree_terminal::Shaping;
@@ -162,8 +163,16 @@ pub fn draw_trace<R: AllocGlobal + Eprint + Print>(
         let _ = io::writer(rt).write_all(input);
         return Ok(Status::Failure);
     }
-    let undrawn = read.undrawn;
+    let TraceCalls {
+        unknown,
+        calls,
+        undrawn,
+    } = read;
     let summary = trace_summary(alloc, text, options)?;
+    let read = DocumentRead {
+        document: whole(calls),
+        unknown,
+    };
     let status = draw_read(
         rt,
         origin,
@@ -217,30 +226,39 @@ fn trace_summary(
     Ok(Some(summary))
 }
 
+// Returns the document of these calls, if they were read.
+pub fn whole(calls: Result<Vec<Call>, LineCause>) -> Result<Whole, LineCause> {
+    match calls {
+        Ok(calls) => Ok(Whole::from(calls)),
+        Err(cause) => Err(cause),
+    }
+}
+
 // Draws what was read of a whole document. Without a summary, it is that of the calls.
-pub fn draw_read<R: AllocGlobal + Eprint + Print>(
+pub fn draw_read<R: AllocGlobal + Eprint + Print, D: Document>(
     rt: &R,
     origin: Origin<'_>,
-    read: TraceCalls,
+    read: DocumentRead<D>,
     subject: Subject,
     summary: Option<Summary>,
     reporter: &Reporter<'_, R>,
     options: &Options<'_>,
 ) -> Result<Status, AllocError> {
     let alloc = rt.alloc();
-    let unknown = read.unknown;
-    let (calls, of_calls) = match read.calls {
-        Ok(calls) => shown_calls(alloc, calls, subject, options)?,
+    let DocumentRead { document, unknown } = read;
+    let document = match document {
+        Ok(document) => document,
         Err(cause) => return Ok(report_unread(cause, reporter)),
     };
-    let summary = summary.or(of_calls);
+    let mut shape = shape(alloc, subject, options);
     let writer = output(alloc, io::writer(rt), options.shaping())?;
     let config = options.config().with_deferred_spans(false);
     let mut layered = layered(alloc, config, writer);
-    let fault = match make(calls, &mut layered) {
+    let fault = match make_document(alloc, document, &mut shape, &mut layered) {
         Ok(()) => None,
-        Err(refusal) => Some(fault_of_document(LineCause::Refused(refusal))),
+        Err(cause) => Some(fault_of_document(cause)),
     };
+    let summary = summary.or(summary_of(shape));
     let status = report_run(&SourceRun { unknown, fault }, layered, reporter);
     Ok(status.worse(print_summary(rt, origin, status, summary)?))
 }

@@ -5,3 +5,4 @@ mod Reach
 mod Texts
 mod Worked
 pub mod Order
+mod Following

@@ -5,7 +5,7 @@ use Rattle.json.specs.Json.{Json, boolean, number, string, array, object, no_ite
 use Rattle.tracing_tree_base.specs.declared.style.Level.TheVariants.{Trace, Debug, Info, Warn, Error}
 use Rattle.ttree_otlp.specs.AnyValue.{any_text}
 use Rattle.ttree_otlp.specs.Draw.{kind_text}
-use Rattle.ttree_otlp.specs.Item.{above_of, id_number}
+use Rattle.ttree_otlp.specs.Item.{parent_of, id_number}
 use Rattle.ttree_otlp.specs.Named.{kind_at, level_of_severity, status_is_error}
 use Rattle.ttree_otlp.specs.Read.{count_at, id_of}
 
@@ -43,7 +43,7 @@ names : (status_is_error (one (codes "code") (string (codes "STATUS_CODE_ERROR")
 names = (refl, refl)
 
 -- a span that is its own parent is a root
-own_parent : (above_of (codes "a") (codes "a") ≡ []) × (above_of (codes "a") (codes "b") ≡ codes "b")
+own_parent : (parent_of (codes "a") (codes "a") ≡ []) × (parent_of (codes "a") (codes "b") ≡ codes "b")
 own_parent = (refl, refl)
 
 kinds : (kind_text 2 ≡ codes "server") × (kind_text 1 ≡ [])

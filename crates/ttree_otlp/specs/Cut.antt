@@ -21,17 +21,17 @@ is_within levels None = true
 
 -- a span that hasn't ended isn't known to be short
 abbrev pub is_long_span : ℕ → ℕ → ℕ → Bool
-is_long_span min_level start end = end == 0 || nat_le min_level (end - start)
+is_long_span min_time start end = end == 0 || nat_le min_time (end - start)
 
 abbrev pub lasts_as : Shape → ℕ → Row → Bool
-lasts_as (Trace id) min_level row = false
-lasts_as (Span span) min_level row = is_long_span min_level row.item.time span.end
-lasts_as (Note note) min_level row = nat_lt row.depth 2
-lasts_as (LeftOut count) min_level row = false
+lasts_as (Trace id) min_time row = false
+lasts_as (Span span) min_time row = is_long_span min_time row.item.time span.end
+lasts_as (Note note) min_time row = nat_lt row.depth 2
+lasts_as (LeftOut count) min_time row = false
 
 -- a span that is long enough, or an event or a log that is in no span of the input
 abbrev pub lasts : ℕ → Row → Bool
-lasts min_level row = lasts_as row.item.shape min_level row
+lasts min_time row = lasts_as row.item.shape min_time row
 
 abbrev pub is_note : Shape → Bool
 is_note (Trace id) = false

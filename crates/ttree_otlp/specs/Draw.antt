@@ -54,9 +54,9 @@ pushed frame s = record s { frames = frame ∷ s.frames }
 -- a span opens in the innermost one
 abbrev pub frame_opened : List ℕ → List Field → ℕ → List ℕ → TreeState → TreeState
 frame_opened name fields end service s =
-    let above = id_on_top s.frames in
-    pushed (record { id = id_of s.next; above = above; end = end; service = service; left = 0 })
-    (record (row_call_emitted (span_call s.moment name fields above) s) { next = one_more s.next })
+    let parent = id_on_top s.frames in
+    pushed (record { id = id_of s.next; parent = parent; end = end; service = service; left = 0 })
+    (record (row_call_emitted (span_call s.moment name fields parent) s) { next = one_more s.next })
 
 -- ---- spans that are left out
 
@@ -71,18 +71,18 @@ left_counted count s = left_counted_in s.frames count s
 
 -- how many were left out, if any
 abbrev pub left_emitted : ℕ → Option Id → TreeState → TreeState
-left_emitted count above s =
+left_emitted count parent s =
     if count == 0 then s
     else row_call_emitted
     (event_call s.moment Info
-    (message_field (codes "left out") ∷ whole_field (codes "spans") (pos count) ∷ []) above) s
+    (message_field (codes "left out") ∷ whole_field (codes "spans") (pos count) ∷ []) parent) s
 
 -- ---- rows
 
--- a service is shown if it isn't that of the span above
+-- a service is shown if it isn't that of its parent
 abbrev pub service_fields : List ℕ → List ℕ → List Field
-service_fields above service =
-    if is_empty service || bytes_eq service above then []
+service_fields current service =
+    if is_empty service || bytes_eq service current then []
     else named_event_field (codes "service") service ∷ []
 
 abbrev pub kind_text : ℕ → List ℕ
@@ -99,7 +99,7 @@ field_if name text = if is_empty text then [] else named_event_field name text �
 
 -- the parent of a span that isn't nested in one
 abbrev pub parent_fields : List ℕ → List ℕ → List Field
-parent_fields above parent = if is_empty above then field_if (codes "parent") parent else []
+parent_fields nested_in parent = if is_empty nested_in then field_if (codes "parent") parent else []
 
 abbrev pub time_field : ℕ → Field
 time_field nanoseconds = rendered_field (codes "time") (length_text nanoseconds)
@@ -115,11 +115,11 @@ leading_fields service time parent kind =
 
 -- a span opens in the innermost one; one that isn't nested in a span of the input shows its parent
 abbrev pub input_span_shown : List ℕ → ℕ → Span → TreeState → TreeState
-input_span_shown above start span s =
+input_span_shown nested_in start span s =
     let fields =
     leading_fields (service_fields (service_on_top s.frames) span.service)
     (time_fields start span.end)
-    (parent_fields above span.parent) span.kind in
+    (parent_fields nested_in span.parent) span.kind in
     frame_opened span.name (fields ++ span.fields) span.end span.service s
 
 abbrev pub trace_shown : List ℕ → TreeState → TreeState
@@ -136,7 +136,7 @@ note_shown note s =
 
 abbrev pub row_shown_as : Shape → Item → TreeState → TreeState
 row_shown_as (Trace id) item s = trace_shown id s
-row_shown_as (OfSpan span) item s = input_span_shown item.above item.time span s
+row_shown_as (OfSpan span) item s = input_span_shown item.parent item.time span s
 row_shown_as (OfNote note) item s = note_shown note s
 row_shown_as (LeftOut count) item s = left_counted count s
 
@@ -149,7 +149,7 @@ row_shown item s = row_shown_as item.shape item (at_time item.time s)
 abbrev pub frame_closed : Frame → TreeState → TreeState
 frame_closed frame s =
     let ended = left_emitted frame.left (Some frame.id) (at_time frame.end s) in
-    row_call_emitted (close_call ended.moment frame.id frame.above) ended
+    row_call_emitted (close_call ended.moment frame.id frame.parent) ended
 
 abbrev pub closed_as : List Frame → TreeState → TreeState
 closed_as [] s = s

@@ -8,7 +8,7 @@ use Rattle.json.specs.Find.{as_object, get}
 use Rattle.ttree_source.specs.Blanks.{first_byte}
 use Rattle.ttree_source.specs.Counts.{one_more}
 use Rattle.ttree_source.specs.Marks.{is_empty}
-use Rattle.ttree_otlp.specs.Item.{above_of, event_note, failed_note, has_body, id_number, link_note, log_note, log_time, span_read, unfinished_note}
+use Rattle.ttree_otlp.specs.Item.{parent_of, event_note, failed_note, has_body, id_number, link_note, log_note, log_time, span_read, unfinished_note}
 use Rattle.ttree_otlp.specs.Keyed.{key_of, kept_at, with_kept}
 use Rattle.ttree_otlp.specs.Named.{status_is_error}
 use Rattle.ttree_otlp.specs.Read.{count_at, id_at, items_at, service_in}
@@ -50,10 +50,10 @@ row_place order shape index =
 
 -- one row more, nested in this span of this trace
 abbrev pub row_gathered : List ℕ → List ℕ → ℕ → ℕ → Shape → GatheredState → GatheredState
-row_gathered trace above order time shape s = record s {
+row_gathered trace parent order time shape s = record s {
   items = s.items ++ (record {
     trace = trace;
-    above = above;
+    parent = parent;
     place = row_place order shape (length s.items);
     time = time;
     shape = shape;
@@ -122,7 +122,7 @@ notes_taken trace span value s =
 abbrev pub span_added : List ℕ → List ℕ → Json → GatheredState → GatheredState
 span_added trace id value s =
     let start = count_at (codes "startTimeUnixNano") value in
-    row_gathered trace (above_of id (id_at (codes "parentSpanId") value)) start start
+    row_gathered trace (parent_of id (id_at (codes "parentSpanId") value)) start start
     (Span (span_read s.service value))
     (notes_taken trace id value (note_known (key_of trace id) start (trace_seen trace start s)))
 
@@ -236,14 +236,14 @@ at_earliest None row = row
 
 abbrev pub in_known_span : Option ℕ → Item → Item
 in_known_span (Some time) row = row
-in_known_span None row = record row { above = [] }
+in_known_span None row = record row { parent = [] }
 
 abbrev pub resolved_as : Shape → List (List ℕ × ℕ) → Item → Item
 resolved_as (Trace id) known row = at_earliest (kept_at (key_of id []) known) row
-resolved_as (Span span) known row = in_known_span (kept_at (key_of row.trace row.above) known) row
-resolved_as (Note note) known row = in_known_span (kept_at (key_of row.trace row.above) known) row
+resolved_as (Span span) known row = in_known_span (kept_at (key_of row.trace row.parent) known) row
+resolved_as (Note note) known row = in_known_span (kept_at (key_of row.trace row.parent) known) row
 resolved_as (LeftOut count) known row =
-    in_known_span (kept_at (key_of row.trace row.above) known) row
+    in_known_span (kept_at (key_of row.trace row.parent) known) row
 
 -- A trace is a row at its earliest time. A row whose span is unknown is nested in the trace.
 abbrev pub resolved : List (List ℕ × ℕ) → Item → Item

@@ -105,8 +105,8 @@ span_read service value = record {
 }
 
 -- The span in which a span is nested. A span that is its own parent is a root.
-abbrev pub above_of : List ℕ → List ℕ → List ℕ
-above_of id parent = if bytes_eq id parent then [] else parent
+abbrev pub parent_of : List ℕ → List ℕ → List ℕ
+parent_of id recorded = if bytes_eq id recorded then [] else recorded
 
 -- ---- the order of ids
 

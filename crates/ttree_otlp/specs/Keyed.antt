@@ -1,5 +1,5 @@
 -- What is kept by trace and span: the earliest time of each, and the rows nested in each.
-use Rattle.std.specs.Prelude.{ℕ, List, [], ◌∷◌, ◌++◌, Option, Some, None, Vec, codes}
+use Rattle.std.specs.Prelude.{ℕ, min, Bool, true, false, List, [], ◌∷◌, ◌++◌, Option, Some, None, Vec, codes}
 use Rattle.std.specs.Global.{Global}
 use Rattle.std.specs.Map.{lookup, remove_entry}
 use Rattle.std.specs.BTreeMap.{insert_entry, is_at}
@@ -7,9 +7,9 @@ use Rattle.std.specs.Cmp.Lexicographic.{slice_cmp}
 use Rattle.std.specs.Ordering.{nat_cmp}
 use Rattle.ttree_otlp.specs.declared.item.Item.{Item}
 
--- a trace and a span of it; without a span it is the trace, and without either the root
+-- a span and its trace; without a span it is the trace, and without either the root
 abbrev pub key_of : List ℕ → List ℕ → List ℕ
-key_of trace span = trace ++ codes " " ++ span
+key_of trace span = span ++ codes " " ++ trace
 
 module _ {V : Type 0} where
   -- what is kept at this key
@@ -37,7 +37,19 @@ module _ {V : Type 0} where
   after_first [] = []
   after_first (e ∷ es) = es
 
+abbrev pub lowered_as : Option ℕ → List ℕ → ℕ → List (List ℕ × ℕ) → List (List ℕ × ℕ)
+lowered_as (Some earliest) key time known = with_kept key (min earliest time) known
+lowered_as None key time known = known
+
+-- the time at a key is this one, if this one is earlier
+abbrev pub lowered : List ℕ → ℕ → List (List ℕ × ℕ) → List (List ℕ × ℕ)
+lowered key time known = lowered_as (kept_at key known) key time known
+
 module _ {T : Type 0} where
+  abbrev pub has_none : List T → Bool
+  has_none [] = true
+  has_none (x ∷ xs) = false
+
   abbrev pub head_of : List T → Option T
   head_of [] = None
   head_of (x ∷ xs) = Some x

@@ -11,3 +11,4 @@ pub mod Cut
 pub mod Select
 pub mod Draw
 pub mod Otlp
+pub mod Tree

@@ -17,6 +17,7 @@ use Rattle.ttree_otlp.specs.Select.{selected_shown}
 use Rattle.ttree_otlp.specs.Walk.{rows_in_order}
 use Rattle.ttree_otlp.specs.declared.item.Item.{Item}
 use Rattle.ttree_otlp.specs.declared.select.Selection.{Selection}
+use Rattle.ttree_otlp.specs.declared.walk.Row.{Row}
 
 -- rows in the only drawing order
 abbrev pub IsInOrder : List Item → List Item → Type 0
@@ -25,6 +26,12 @@ IsInOrder rows ordered = IsPermutation rows ordered × IsSorted item_cmp ordered
 -- the rows of an input, each with the span in which it is nested
 abbrev pub rows_of : GatheredState → List Item
 rows_of gathered = map (resolved gathered.known) gathered.items
+
+-- The rows that are shown of what was gathered, in drawing order. They are the only ones.
+abbrev pub AreRowsOf : Selection → GatheredState → List Row → Type 0
+AreRowsOf selection gathered rows =
+    (ordered : List Item) × IsInOrder (rows_of gathered) ordered
+    × (rows ≡ selected_shown selection (rows_in_order ordered))
 
 -- The calls that draw what is shown of what was gathered. They are the only ones.
 abbrev pub AreCallsOf : ℕ → Moment → Selection → GatheredState → List Call → Type 0

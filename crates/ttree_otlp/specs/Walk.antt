@@ -16,13 +16,12 @@ pub record WalkState : Type 0 where
 -- ---- rows by the span that they are in
 
 abbrev pub key_in : Item → List ℕ
-key_in item = key_of item.trace item.above
+key_in item = key_of item.trace item.parent
 
 -- a row before the rows of its span that are already there
 abbrev pub put_first : Item → List (List ℕ × List Item) → List (List ℕ × List Item)
 put_first item groups =
-    with_kept (key_in item) (item ∷ unwrap_or (kept_at (key_in item) groups) [])
-    (without_kept (key_in item) groups)
+    with_kept (key_in item) (item ∷ unwrap_or (kept_at (key_in item) groups) []) groups
 
 abbrev pub grouped : List Item → List (List ℕ × List Item)
 grouped [] = []
@@ -88,7 +87,7 @@ after_item (group ∷ below) = tail_of group ∷ below
 abbrev pub trace_item : List ℕ → ℕ → Item
 trace_item id time = record {
   trace = [];
-  above = [];
+  parent = [];
   place = record { time = time; rank = 1; number = 0; index = 0 };
   time = time;
   shape = Trace id;

@@ -37,19 +37,20 @@ fn is_within(levels: usize, depth: Option<usize>) -> bool
 }
 
 // Returns whether a span took at least this long. One that hasn't ended isn't known to be short.
-fn is_long(min_level: u64, start: u64, end: u64) -> bool
-    ensures { result ≡ is_long_span min_level start end }
+fn is_long(min_time: u64, start: u64, end: u64) -> bool
+    ensures { result ≡ is_long_span min_time start end }
 {
-    end == 0 || end.saturating_sub(start) >= min_level
+    end == 0 || end.saturating_sub(start) >= min_time
 }
 
 // Returns whether a row is a span that is long enough, or an event or a log in no input span.
-fn lasts(min_level: u64, row: &Row) -> bool
-    ensures { result ≡ lasts min_level row.now }
+fn lasts(min_time: u64, row: &Row) -> bool
+    ensures { result ≡ lasts min_time row.now }
 {
-    match &row.item.shape {
+    let item = row.item.get();
+    match &item.shape {
         Shape::Trace(_) | Shape::LeftOut(_) => false,
-        Shape::Span(span) => is_long(min_level, row.item.time, span.end),
+        Shape::Span(span) => is_long(min_time, item.time, span.end),
         Shape::Note(_) => row.depth < 2,
     }
 }
@@ -74,7 +75,8 @@ pub(crate) fn reach_with(is_picked: bool, depth: usize, reach: usize) -> usize
 fn is_drawn_by(cut: Cut, row: &Row, is_lasting: bool, reach: usize) -> bool
     ensures { result ≡ is_drawn_by cut row.now is_lasting reach }
 {
-    is_within(row.depth, cut.depth) && (is_lasting || row.depth < reach) || is_note(&row.item.shape)
+    is_within(row.depth, cut.depth) && (is_lasting || row.depth < reach)
+        || is_note(&row.item.get().shape)
 }
 
 // Adds up counts, up to the largest.
@@ -100,7 +102,7 @@ fn left_out(count: u64, row: Row) -> Row
     ensures { result ≡ left_out_row count row }
 {
     let mut row = row;
-    row.item.shape = Shape::LeftOut(count);
+    row.item.set_shape(Shape::LeftOut(count));
     row
 }
 
@@ -111,7 +113,7 @@ fn draw(rows: &mut Rows, is_drawn: bool, row: Row) -> Result<(), AllocError>
     if is_drawn {
         return rows.put(row);
     }
-    let count = rows.count_nested(row.depth, count_as(&row.item.shape));
+    let count = rows.count_nested(row.depth, count_as(&row.item.get().shape));
     rows.put(left_out(count, row))
 }
 

@@ -5,13 +5,14 @@ ghost use Rattle.ttree_otlp.specs.Draw.{at_time, begun_tree, calls_of_rows, clos
 ghost use Rattle.ttree_source.specs.Moments.{moment_at};
 
 use crate::cut::sum_of;
-use crate::item::{Item, Note, Shape, Span};
+use crate::item::{Item, ItemBox, Note, Shape, Span};
 use crate::keyed::Rows;
 use crate::read::field_of;
 use crate::walk::Row;
 use jiff::Timestamp;
 use std::alloc::{AllocError, Global};
 use std::marker::Model;
+use std::mem::replace;
 use tracing_tree_base::Id;
 use tracing_tree_base::field::{Field, Fields};
 use tracing_tree_base::style::Level;
@@ -25,7 +26,7 @@ use ttree_source::length::length_text;
 #[derive(Drop)]
 pub(crate) struct Frame {
     id: Id,
-    above: Option<Id>,
+    parent: Option<Id>,
     // When it closes. It is 0 if it closes when its last row does.
     end: u64,
     service: Text,
@@ -78,7 +79,7 @@ pub(crate) fn calls_of_rows(
 }
 
 impl Tree {
-    fn new(alloc: Global, next: u64, moment: Moment) -> Tree
+    pub(crate) fn new(alloc: Global, next: u64, moment: Moment) -> Tree
         ensures { result ≡ begun_tree next moment }
     {
         Tree {
@@ -107,8 +108,16 @@ impl Tree {
         Ok(())
     }
 
+    // Takes the calls so far.
+    pub(crate) fn take_calls(&mut self) -> Vec<Call>
+        ensures calls { result.items ≡ self.old.calls }
+        ensures rest { self.new ≡ record self.old { calls = [] } }
+    {
+        replace(&mut self.calls, Vec::new(self.alloc))
+    }
+
     // Closes all that is open, and records how many spans were left out at the root.
-    fn finish(&mut self) -> Result<(), AllocError>
+    pub(crate) fn finish(&mut self) -> Result<(), AllocError>
         ensures { OnOk result (self.new ≡ rows_finished self.old) }
     {
         self.close_to(0)?;
@@ -116,7 +125,7 @@ impl Tree {
     }
 
     // Closes the spans that a row isn't nested in, and shows the row.
-    fn draw_row(&mut self, row: Row) -> Result<(), AllocError>
+    pub(crate) fn draw_row(&mut self, row: Row) -> Result<(), AllocError>
         ensures { OnOk result (self.new ≡ row_drawn row self.old) }
     {
         self.close_to(row.depth)?;
@@ -157,13 +166,13 @@ impl Tree {
         self.emit_left(frame.left, Some(frame.id))?;
         Ok(
             self.calls
-                .push(close_call(self.moment, frame.id, frame.above))?,
+                .push(close_call(self.moment, frame.id, frame.parent))?,
         )
     }
 
     // Records how many spans were left out, if any.
-    fn emit_left(&mut self, count: u64, above: Option<Id>) -> Result<(), AllocError>
-        ensures { OnOk result (self.new ≡ left_emitted count above self.old) }
+    fn emit_left(&mut self, count: u64, parent: Option<Id>) -> Result<(), AllocError>
+        ensures { OnOk result (self.new ≡ left_emitted count parent self.old) }
     {
         if count == 0 {
             return Ok(());
@@ -172,7 +181,7 @@ impl Tree {
         fields.push(message_field(self.alloc, "left out")?)?;
         fields.push(Field::whole(self.alloc, "spans", i128::from(count))?)?;
         let fields = Fields::from(fields);
-        let call = event_call(self.alloc, self.moment, Level::Info, fields, above)?;
+        let call = event_call(self.alloc, self.moment, Level::Info, fields, parent)?;
         Ok(self.calls.push(call)?)
     }
 
@@ -195,20 +204,21 @@ impl Tree {
         }
     }
 
-    fn show_row(&mut self, item: Item) -> Result<(), AllocError>
+    fn show_row(&mut self, item: ItemBox) -> Result<(), AllocError>
         ensures { OnOk result (self.new ≡ row_shown item self.old) }
     {
+        let item = item.into_item();
         self.go_to(item.time);
         let Item {
             trace: _,
-            above,
+            parent,
             place: _,
             time,
             shape,
         } = item;
         match shape {
             Shape::Trace(id) => self.show_trace(id.as_str()),
-            Shape::Span(span) => self.show_span(above.as_str(), time, span),
+            Shape::Span(span) => self.show_span(parent.as_str(), time, span),
             Shape::Note(note) => self.show_note(note),
             Shape::LeftOut(count) => {
                 self.count_left(count);
@@ -241,9 +251,9 @@ impl Tree {
         ensures { OnOk result (self.new ≡ note_shown note self.old) }
     {
         let level = note.level;
-        let above = self.current();
+        let parent = self.current();
         let fields = note_fields(self.alloc, note, self.service())?;
-        let call = event_call(self.alloc, self.moment, level, fields, above)?;
+        let call = event_call(self.alloc, self.moment, level, fields, parent)?;
         Ok(self.calls.push(call)?)
     }
 
@@ -255,8 +265,8 @@ impl Tree {
         self.open("trace", fields, 0, service)
     }
 
-    fn show_span(&mut self, above: &str, start: u64, span: Span) -> Result<(), AllocError>
-        ensures { OnOk result (self.new ≡ input_span_shown above.now start span self.old) }
+    fn show_span(&mut self, nested_in: &str, start: u64, span: Span) -> Result<(), AllocError>
+        ensures { OnOk result (self.new ≡ input_span_shown nested_in.now start span self.old) }
     {
         let Span {
             id: _,
@@ -271,7 +281,7 @@ impl Tree {
             self.alloc,
             service_fields(self.alloc, self.service(), service.as_str())?,
             time_fields(self.alloc, start, end)?,
-            parent_fields(self.alloc, above, parent.as_str())?,
+            parent_fields(self.alloc, nested_in, parent.as_str())?,
             kind,
         )?;
         shown.append(fields)?;
@@ -288,15 +298,15 @@ impl Tree {
     ) -> Result<(), AllocError>
         ensures { OnOk result (self.new ≡ frame_opened name.now fields end service self.old) }
     {
-        let above = self.current();
-        let call = span_call(self.alloc, self.moment, name, fields, above)?;
+        let parent = self.current();
+        let call = span_call(self.alloc, self.moment, name, fields, parent)?;
         self.calls.push(call)?;
         let id = Id(self.next);
         self.next = self.next.saturating_add(1);
         Ok(
             self.frames.push(Frame {
                 id,
-                above,
+                parent,
                 end,
                 service,
                 left: 0,
@@ -319,10 +329,10 @@ fn moment_at(nanosecond: u64, before: Moment) -> Moment
 }
 
 // Returns the field with the service, if it isn't that of the parent.
-fn service_fields(alloc: Global, above: &str, service: &str) -> Result<Fields, AllocError>
-    ensures { IfOk result (λ fields. fields ≡ service_fields above.now service.now) }
+fn service_fields(alloc: Global, current: &str, service: &str) -> Result<Fields, AllocError>
+    ensures { IfOk result (λ fields. fields ≡ service_fields current.now service.now) }
 {
-    if service.is_empty() || service == above {
+    if service.is_empty() || service == current {
         return Ok(Fields::new(alloc));
     }
     Ok(Fields::one(alloc, field_of(alloc, "service", service)?))
@@ -360,10 +370,10 @@ fn field_if(alloc: Global, name: &str, text: &str) -> Result<Fields, AllocError>
 }
 
 // Returns the parent of a span that isn't nested in one.
-fn parent_fields(alloc: Global, above: &str, parent: &str) -> Result<Fields, AllocError>
-    ensures { IfOk result (λ fields. fields ≡ parent_fields above.now parent.now) }
+fn parent_fields(alloc: Global, nested_in: &str, parent: &str) -> Result<Fields, AllocError>
+    ensures { IfOk result (λ fields. fields ≡ parent_fields nested_in.now parent.now) }
 {
-    if above.is_empty() {
+    if nested_in.is_empty() {
         field_if(alloc, "parent", parent)
     } else {
         Ok(Fields::new(alloc))

@@ -9,8 +9,8 @@ ghost use Rattle.ttree_otlp.specs.Keyed.{key_of};
 ghost use Rattle.ttree_otlp.specs.Read.{items_at};
 
 use crate::item::{
-    Item, Place, Shape, above_of, event_note, failed_note, has_body, link_note, log_note, log_time,
-    number_of, span_of, unfinished_note,
+    Item, ItemBox, Place, Shape, event_note, failed_note, has_body, link_note, log_note, log_time,
+    number_of, parent_of, span_of, unfinished_note,
 };
 use crate::keyed::{Known, key_of};
 use crate::named::has_failed;
@@ -30,7 +30,7 @@ pub(crate) struct Gathered {
     line: u64,
     // That whose resource was read last.
     service: Text,
-    pub(crate) items: Vec<Item>,
+    pub(crate) items: Vec<ItemBox>,
     pub(crate) known: Known,
     // The lines of what was skipped.
     pub(crate) problems: Vec<u64>,
@@ -83,7 +83,7 @@ impl Gathered {
     }
 
     // Returns the rows, and the traces and spans that there are.
-    pub(crate) fn into_rows(self) -> (Vec<Item>, Known)
+    pub(crate) fn into_rows(self) -> (Vec<ItemBox>, Known)
         ensures items { result.0.items ≡ self.items }
         ensures known { result.1 ≡ self.known }
     {
@@ -261,12 +261,12 @@ impl Gathered {
     {
         let start = count_at(value, "startTimeUnixNano");
         let span = span_of(self.alloc, self.service.clone()?, value)?;
-        let parent = id_at(self.alloc, value, "parentSpanId")?;
-        let above = above_of(self.alloc, id, parent.as_str())?;
+        let recorded = id_at(self.alloc, value, "parentSpanId")?;
+        let parent = parent_of(self.alloc, id, recorded.as_str())?;
         self.see_trace(trace, start)?;
         self.note_known(key_of(self.alloc, trace, id)?, start)?;
         self.take_notes(trace, id, value)?;
-        self.add(trace, above.as_str(), start, start, Shape::Span(span))
+        self.add(trace, parent.as_str(), start, start, Shape::Span(span))
     }
 
     // Records that something happened in a trace at this time.
@@ -274,14 +274,12 @@ impl Gathered {
         ensures { OnOk result (self.new ≡ trace_seen trace.now time self.old) }
     {
         let key = key_of(self.alloc, trace, "")?;
-        match self.known.time_at(key.as_slice()) {
-            Some(earliest) => self.note_known(key, earliest.min(time)),
-            None => {
-                self.note_known(key, time)?;
-                let shape = Shape::Trace(Text::from_str(self.alloc, trace)?);
-                self.add("", "", time, time, shape)
-            }
+        if self.known.lower(key.as_slice(), time) {
+            return Ok(());
         }
+        self.note_known(key, time)?;
+        let shape = Shape::Trace(Text::from_str(self.alloc, trace)?);
+        self.add("", "", time, time, shape)
     }
 
     fn note_known(&mut self, key: Vec<u8>, time: u64) -> Result<(), AllocError>
@@ -404,22 +402,22 @@ impl Gathered {
     fn add(
         &mut self,
         trace: &str,
-        above: &str,
+        parent: &str,
         order: u64,
         time: u64,
         shape: Shape,
     ) -> Result<(), AllocError>
         ensures { OnOk result (self.new
-            ≡ row_gathered trace.now above.now order time shape self.old) }
+            ≡ row_gathered trace.now parent.now order time shape self.old) }
     {
         let item = Item {
             trace: Text::from_str(self.alloc, trace)?,
-            above: Text::from_str(self.alloc, above)?,
+            parent: Text::from_str(self.alloc, parent)?,
             place: place_of(order, &shape, self.items.len()),
             time,
             shape,
         };
-        Ok(self.items.push(item)?)
+        Ok(self.items.push(ItemBox::new(self.alloc, item)?)?)
     }
 }
 
@@ -473,45 +471,49 @@ fn place_of(order: u64, shape: &Shape, index: usize) -> Place
 
 // Returns a trace at its earliest time, and any other row in its span, or in its trace if the span
 // is unknown.
-fn resolved(alloc: Global, known: &Known, item: Item) -> Result<Item, AllocError>
+fn resolved(alloc: Global, known: &Known, item: ItemBox) -> Result<ItemBox, AllocError>
     ensures { IfOk result (λ row. row ≡ resolved known.now item) }
 {
-    match &item.shape {
+    let found = item.get();
+    match &found.shape {
         Shape::Trace(id) => {
             let key = key_of(alloc, id.as_str(), "")?;
             Ok(timed(known.time_at(key.as_slice()), item))
         }
         Shape::Span(_) | Shape::Note(_) | Shape::LeftOut(_) => {
-            let key = key_of(alloc, item.trace.as_str(), item.above.as_str())?;
+            let key = key_of(alloc, found.trace.as_str(), found.parent.as_str())?;
             held(alloc, known.time_at(key.as_slice()), item)
         }
     }
 }
 
 // Returns a row at this time, if it is known.
-fn timed(time: Option<u64>, item: Item) -> Item
+fn timed(time: Option<u64>, item: ItemBox) -> ItemBox
     ensures { result ≡ at_earliest time item }
 {
     let mut item = item;
     if let Some(time) = time {
-        item.time = time;
-        item.place.time = time;
+        item.set_time(time);
     }
     item
 }
 
 // Returns a row in its span if that is known, otherwise in its trace.
-fn held(alloc: Global, known: Option<u64>, item: Item) -> Result<Item, AllocError>
+fn held(alloc: Global, known: Option<u64>, item: ItemBox) -> Result<ItemBox, AllocError>
     ensures { IfOk result (λ row. row ≡ in_known_span known item) }
 {
     let mut item = item;
     if known.is_none() {
-        item.above = Text::from_str(alloc, "")?;
+        item.clear_parent(alloc)?;
     }
     Ok(item)
 }
 
-fn resolved_all(alloc: Global, known: &Known, items: Vec<Item>) -> Result<Vec<Item>, AllocError>
+fn resolved_all(
+    alloc: Global,
+    known: &Known,
+    items: Vec<ItemBox>,
+) -> Result<Vec<ItemBox>, AllocError>
     ensures { IfOk result (λ rows. rows.items ≡ map (resolved known.now) items.items) }
 {
     let mut rows = Vec::with_capacity(alloc, items.len())?;
@@ -526,8 +528,8 @@ fn resolved_all(alloc: Global, known: &Known, items: Vec<Item>) -> Result<Vec<It
 pub(crate) fn in_order(
     alloc: Global,
     known: &Known,
-    items: Vec<Item>,
-) -> Result<Vec<Item>, AllocError>
+    items: Vec<ItemBox>,
+) -> Result<Vec<ItemBox>, AllocError>
     ensures same { IfOk result (λ ordered.
         IsPermutation (map (resolved known.now) items.items) ordered.items) }
     ensures sorted { IfOk result (λ ordered. IsSorted item_cmp ordered.items) }
@@ -537,17 +539,13 @@ pub(crate) fn in_order(
     Ok(rows)
 }
 
-fn sort(items: &mut Vec<Item>) -> Result<(), AllocError>
+fn sort(items: &mut Vec<ItemBox>) -> Result<(), AllocError>
     ensures same { IsPermutation items.old.items items.new.items }
     ensures sorted { OnOk result (IsSorted item_cmp items.new.items) }
 {
     items.sort_by_key(|item| {
-        (
-            item.place.time,
-            item.place.rank,
-            item.place.number,
-            item.place.index,
-        )
+        let place = item.get().place;
+        (place.time, place.rank, place.number, place.index)
     })?;
     Ok(())
 }

@@ -1,15 +1,17 @@
 //! What a span, its links, its events and its status, and a log say.
 
-ghost use Rattle.std.specs.Prelude.{◌≡◌, ◌<◌, IfOk, Some, codes};
+ghost use Rattle.std.specs.Prelude.{◌≡◌, ◌<◌, IfOk, None, OnOk, Some, codes};
 ghost use Rattle.json.specs.Find.{get};
 ghost use Rattle.json.specs.Value.{members_view, value_view};
-ghost use Rattle.ttree_otlp.specs.Item.{above_of, body_fields, digit_added, event_level, event_note, failed_note, has_body, has_members, hex_digit, id_number, link_note, log_note, log_time, reason_fields, span_read, unfinished_note};
+ghost use Rattle.ttree_otlp.specs.Gather.{at_earliest, in_known_span};
+ghost use Rattle.ttree_otlp.specs.Item.{parent_of, body_fields, digit_added, event_level, event_note, failed_note, has_body, has_members, hex_digit, id_number, link_note, log_note, log_time, reason_fields, span_read, unfinished_note};
 
 use crate::any::any_text;
 use crate::named::{kind_at, level_at};
 use crate::read::{attributes_in, count_at, field_of, id_at, string_at};
 use json::Value;
 use std::alloc::{AllocError, Global};
+use std::marker::Model;
 use tracing_tree_base::field::Fields;
 use tracing_tree_base::style::Level;
 use tracing_tree_base::text::Text;
@@ -66,11 +68,69 @@ pub(crate) struct Item {
     // Empty for traces, and for logs without a trace.
     pub(crate) trace: Text,
     // The id of the span that it is nested in. Empty at the root.
-    pub(crate) above: Text,
+    pub(crate) parent: Text,
     pub(crate) place: Place,
     // It is 0 if it isn't known.
     pub(crate) time: u64,
     pub(crate) shape: Shape,
+}
+
+// An item, allocated by itself, so that lists of items take little space and are sorted quickly.
+#[derive(Drop)]
+pub(crate) struct ItemBox {
+    item: Box<Item>,
+}
+
+impl Model for ItemBox {
+    ghost use Rattle.ttree_otlp.specs.declared.item.Item.{Item};
+
+    ghost Value = { Item };
+
+    ghost view = { λ b. b.item.value };
+}
+
+impl ItemBox {
+    pub(crate) fn new(alloc: Global, item: Item) -> Result<ItemBox, AllocError>
+        ensures { IfOk result (λ boxed. boxed ≡ item) }
+    {
+        Ok(ItemBox {
+            item: Box::new(alloc, item)?,
+        })
+    }
+
+    pub(crate) fn get(&self) -> &Item
+        ensures { result.now ≡ self.now }
+    {
+        &self.item
+    }
+
+    pub(crate) fn into_item(self) -> Item
+        ensures { result ≡ self }
+    {
+        Box::into_inner(self.item)
+    }
+
+    // Moves an item to this time.
+    pub(crate) fn set_time(&mut self, time: u64)
+        ensures { self.new ≡ at_earliest (Some time) self.old }
+    {
+        self.item.time = time;
+        self.item.place.time = time;
+    }
+
+    // Moves an item to the root of its trace.
+    pub(crate) fn clear_parent(&mut self, alloc: Global) -> Result<(), AllocError>
+        ensures { OnOk result (self.new ≡ in_known_span None self.old) }
+    {
+        self.item.parent = Text::from_str(alloc, "")?;
+        Ok(())
+    }
+
+    pub(crate) fn set_shape(&mut self, shape: Shape)
+        ensures { self.new ≡ record self.old { shape = shape } }
+    {
+        self.item.shape = shape;
+    }
 }
 
 // Returns the time of a log: when it happened, otherwise when it was observed.
@@ -229,14 +289,14 @@ pub(crate) fn span_of(alloc: Global, service: Text, value: &Value<'_>) -> Result
     })
 }
 
-// Returns the span that a span is nested in. It is empty if the span is its own parent.
-pub(crate) fn above_of(alloc: Global, id: &str, parent: &str) -> Result<Text, AllocError>
-    ensures { IfOk result (λ above. above ≡ above_of id.now parent.now) }
+// Returns the id of the span that a span is nested in. It is empty if the span is its own parent.
+pub(crate) fn parent_of(alloc: Global, id: &str, recorded: &str) -> Result<Text, AllocError>
+    ensures { IfOk result (λ parent. parent ≡ parent_of id.now recorded.now) }
 {
-    if id == parent {
+    if id == recorded {
         return Text::from_str(alloc, "");
     }
-    Text::from_str(alloc, parent)
+    Text::from_str(alloc, recorded)
 }
 
 fn hex_digit(byte: u8) -> u64

@@ -1,24 +1,27 @@
 //! What is kept by trace and span: the earliest time of each, and the rows nested in each.
 
-ghost use Rattle.std.specs.Prelude.{◌≡◌, ◌∷◌, [], IfOk, OnOk};
+ghost use Rattle.std.specs.Prelude.{◌≡◌, ◌∷◌, [], IfOk, OnOk, is_some, unwrap_or};
 ghost use Rattle.ttree_otlp.specs.Cut.{count_with};
 ghost use Rattle.ttree_otlp.specs.Nested.{begins_deeper, without_nested};
-ghost use Rattle.ttree_otlp.specs.Keyed.{after_first, first_kept, first_time, head_of, kept_at, key_of, tail_of, trace_of, with_kept, without_kept};
+ghost use Rattle.ttree_otlp.specs.Keyed.{after_first, first_kept, first_time, has_none, head_of, kept_at, key_of, lowered, tail_of, trace_of, with_kept, without_kept};
 
 use crate::cut::{count_as, sum_of};
-use crate::item::Item;
+use crate::item::ItemBox;
 use crate::walk::Row;
 use std::alloc::{AllocError, Global};
 use std::collections::BTreeMap;
 use std::marker::Model;
 
-// Returns a trace and a span of it; without a span it is the trace, and without either the root.
+// Returns a span and its trace; without a span it is the trace, and without either the root. The
+// span comes first, since the ids of spans differ early, and those of a trace's spans share its id.
 pub(crate) fn key_of(alloc: Global, trace: &str, span: &str) -> Result<Vec<u8>, AllocError>
     ensures { IfOk result (λ key. key.items ≡ key_of trace.now span.now) }
 {
-    let mut key = Vec::from_slice(alloc, trace.as_bytes())?;
-    key.extend_from_slice(" ".as_bytes())?;
+    let length = span.len().saturating_add(1).saturating_add(trace.len());
+    let mut key = Vec::with_capacity(alloc, length)?;
     key.extend_from_slice(span.as_bytes())?;
+    key.extend_from_slice(" ".as_bytes())?;
+    key.extend_from_slice(trace.as_bytes())?;
     Ok(key)
 }
 
@@ -67,13 +70,27 @@ impl Known {
         self.entries.insert(key, time)?;
         Ok(())
     }
+
+    // Puts the earlier one of this time and the one at a key there. Returns whether there was one.
+    pub(crate) fn lower(&mut self, key: &[u8], time: u64) -> bool
+        ensures found { result ≡ is_some (kept_at key.now self.old) }
+        ensures lowered { self.new ≡ lowered key.now time self.old }
+    {
+        match self.entries.get_mut(key) {
+            Some(earliest) => {
+                *earliest = (*earliest).min(time);
+                true
+            }
+            None => false,
+        }
+    }
 }
 
 // The rows nested in one span, the first first.
 #[derive(Drop)]
 pub(crate) struct Group {
     // The first one last.
-    items: Vec<Item>,
+    items: Vec<ItemBox>,
 }
 
 impl Model for Group {
@@ -94,8 +111,16 @@ impl Group {
         }
     }
 
+    fn one(alloc: Global, item: ItemBox) -> Result<Group, AllocError>
+        ensures { IfOk result (λ group. group ≡ item ∷ []) }
+    {
+        let mut group = Group::new(alloc);
+        group.put(item)?;
+        Ok(group)
+    }
+
     // Puts a row before the others. Most spans have few, so little space is kept for more.
-    pub(crate) fn put(&mut self, item: Item) -> Result<(), AllocError>
+    pub(crate) fn put(&mut self, item: ItemBox) -> Result<(), AllocError>
         ensures { OnOk result (self.new ≡ item ∷ self.old) }
     {
         if self.items.len() == self.items.capacity() {
@@ -105,7 +130,7 @@ impl Group {
     }
 
     // Takes the first row.
-    pub(crate) fn take(&mut self) -> Option<Item>
+    pub(crate) fn take(&mut self) -> Option<ItemBox>
         ensures item { result ≡ head_of self.old }
         ensures rest { self.new ≡ tail_of self.old }
     {
@@ -117,7 +142,7 @@ impl Group {
         ensures { result.now ≡ trace_of self.now }
     {
         match self.items.as_slice().last() {
-            Some(item) => item.trace.as_str(),
+            Some(item) => item.get().trace.as_str(),
             None => "",
         }
     }
@@ -127,7 +152,7 @@ impl Group {
         ensures { result ≡ first_time self.now }
     {
         match self.items.as_slice().last() {
-            Some(item) => item.time,
+            Some(item) => item.get().time,
             None => 0,
         }
     }
@@ -158,6 +183,12 @@ impl Rows {
         }
     }
 
+    pub(crate) fn is_empty(&self) -> bool
+        ensures { result ≡ has_none self.now }
+    {
+        self.rows.is_empty()
+    }
+
     // Puts a row before the others.
     pub(crate) fn put(&mut self, row: Row) -> Result<(), AllocError>
         ensures { OnOk result (self.new ≡ row ∷ self.old) }
@@ -182,7 +213,7 @@ impl Rows {
         let mut count = count;
         while self.begins_deeper(depth) {
             if let Some(row) = self.rows.pop() {
-                count = sum_of(count, count_as(&row.item.shape));
+                count = sum_of(count, count_as(&row.item.get().shape));
             }
         }
         count
@@ -250,10 +281,20 @@ impl Groups {
         self.entries.remove(key)
     }
 
-    pub(crate) fn put(&mut self, key: Vec<u8>, group: Group) -> Result<(), AllocError>
-        ensures { OnOk result (self.new ≡ with_kept key.items group self.old) }
+    // Puts a row before those at a key.
+    pub(crate) fn put_first(
+        &mut self,
+        alloc: Global,
+        key: Vec<u8>,
+        item: ItemBox,
+    ) -> Result<(), AllocError>
+        ensures { OnOk result (self.new
+            ≡ with_kept key.items (item ∷ unwrap_or (kept_at key.items self.old) []) self.old) }
     {
-        self.entries.insert(key, group)?;
+        if let Some(group) = self.entries.get_mut(key.as_slice()) {
+            return group.put(item);
+        }
+        self.entries.insert(key, Group::one(alloc, item)?)?;
         Ok(())
     }
 

@@ -3,12 +3,15 @@
 ghost use Rattle.std.specs.Prelude.{◌≡◌, ◌<◌, IfErr, IfOk, MatchOption, MatchResult, OnOk, Some, length, string_bytes, ⊤};
 ghost use Rattle.tracing_tree_layer.specs.Layer.Layers.{seen, Changes};
 ghost use Rattle.ttree_otlp.specs.Gather.{gathered_in};
-ghost use Rattle.ttree_otlp.specs.Otlp.{AreCallsOf, DrawsOrEnds, EndsReading, RunsOtlp, notes_of};
+ghost use Rattle.ttree_otlp.specs.Otlp.{AreCallsOf, AreRowsOf, DrawsOrEnds, EndsReading, RunsOtlp, notes_of};
+ghost use Rattle.ttree_otlp.specs.Tree.{calls_of_tree};
 ghost use Rattle.ttree_source.specs.Noted.{AddsNotes};
 
 use crate::draw::calls_of_rows;
 use crate::gather::{Gathered, gathered_in, in_order};
+use crate::keyed::Rows;
 use crate::select::{Selection, shown};
+use crate::tree::OtlpTree;
 use crate::walk::rows_in_order;
 use std::alloc::{AllocError, Global};
 use tracing_tree_layer::call::Call;
@@ -72,52 +75,53 @@ pub fn run_otlp<W: Output, FT: FormatTime, N: Notes>(
 
 /// What was read of an input.
 #[derive(Drop)]
-pub struct OtlpCalls {
-    /// The calls that draw it, or what ended the reading.
-    pub calls: Result<Vec<Call>, LineCause>,
+pub struct OtlpRead {
+    /// What is to be drawn, or what ended the reading.
+    pub tree: Result<OtlpTree, LineCause>,
 
     /// How many of its lines and spans were skipped.
     pub unknown: u64,
 }
 
-/// Reads an input, and returns the calls that [`run_otlp`] makes on its receiver. The arguments are
-/// those of `run_otlp`, and so are the notes. The input is dropped before the calls are made, since
-/// both together would take much memory.
-pub fn otlp_calls<N: Notes>(
+/// Reads an input, and returns what [`run_otlp`] draws of it. The arguments are those of
+/// `run_otlp`, and so are the notes. The input is dropped before the rows are nested, since both
+/// together would take much memory.
+pub fn read_otlp<N: Notes>(
     alloc: Global,
     next: u64,
     moment: Moment,
     selection: &Selection,
     text: String,
     notes: &mut N,
-) -> OtlpCalls
-    ensures read { MatchResult result.calls
-        (λ calls. AreCallsOf next moment selection.now (gathered_in (string_bytes text)) calls.items
+) -> OtlpRead
+    ensures read { MatchResult result.tree
+        (λ tree. AreCallsOf next moment selection.now (gathered_in (string_bytes text))
+        (calls_of_tree tree)
         × (result.unknown ≡ length (gathered_in (string_bytes text)).problems))
         (λ cause. EndsReading cause (gathered_in (string_bytes text))) }
-    ensures noted { OnOk result.calls
+    ensures noted { OnOk result.tree
         (AddsNotes (notes_of (gathered_in (string_bytes text)).problems) (N.noted notes.old)
         (N.noted notes.new)) }
 {
     let Ok(gathered) = gathered_in(alloc, text.as_str()) else {
-        return OtlpCalls {
-            calls: Err(LineCause::Memory),
+        return OtlpRead {
+            tree: Err(LineCause::Memory),
             unknown: 0,
         };
     };
     drop(text);
     let unknown = gathered.problems.len() as u64;
     if let Err(cause) = note_all(gathered.problems.as_slice(), notes) {
-        return OtlpCalls {
-            calls: Err(cause),
+        return OtlpRead {
+            tree: Err(cause),
             unknown,
         };
     }
-    let calls = match calls_of(alloc, next, moment, selection, gathered) {
-        Ok(calls) => Ok(calls),
+    let tree = match tree_of(alloc, next, moment, selection, gathered) {
+        Ok(tree) => Ok(tree),
         Err(AllocError) => Err(LineCause::Memory),
     };
-    OtlpCalls { calls, unknown }
+    OtlpRead { tree, unknown }
 }
 
 fn ended(unknown: u64, cause: LineCause) -> SourceRun
@@ -180,9 +184,30 @@ fn calls_of(
 ) -> Result<Vec<Call>, AllocError>
     ensures { IfOk result (λ calls. AreCallsOf next moment selection.now gathered calls.items) }
 {
+    calls_of_rows(alloc, next, moment, rows_of(alloc, selection, gathered)?)
+}
+
+// Returns what is drawn of what was gathered.
+fn tree_of(
+    alloc: Global,
+    next: u64,
+    moment: Moment,
+    selection: &Selection,
+    gathered: Gathered,
+) -> Result<OtlpTree, AllocError>
+    ensures { IfOk result
+        (λ tree. AreCallsOf next moment selection.now gathered (calls_of_tree tree)) }
+{
+    let rows = rows_of(alloc, selection, gathered)?;
+    Ok(OtlpTree::new(alloc, next, moment, rows))
+}
+
+// Returns the rows that are drawn of what was gathered.
+fn rows_of(alloc: Global, selection: &Selection, gathered: Gathered) -> Result<Rows, AllocError>
+    ensures { IfOk result (λ rows. AreRowsOf selection.now gathered rows) }
+{
     let (items, known) = gathered.into_rows();
     let ordered = in_order(alloc, &known, items)?;
     drop(known);
-    let rows = shown(alloc, selection, rows_in_order(alloc, ordered)?)?;
-    calls_of_rows(alloc, next, moment, rows)
+    shown(alloc, selection, rows_in_order(alloc, ordered)?)
 }

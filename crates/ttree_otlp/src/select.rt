@@ -117,8 +117,9 @@ fn selects_events(selection: &Selection) -> bool
 fn is_selected(selection: &Selection, row: &Row) -> bool
     ensures { result ≡ is_selected selection.now row.now }
 {
-    let trace = row.item.trace.as_str();
-    match &row.item.shape {
+    let item = row.item.get();
+    let trace = item.trace.as_str();
+    match &item.shape {
         Shape::Trace(_) => false,
         Shape::Span(span) => {
             !selects_events(selection) && fits(selection, trace, span.service.as_str())
@@ -132,12 +133,11 @@ fn is_selected(selection: &Selection, row: &Row) -> bool
 fn is_around(selection: &Selection, row: &Row) -> bool
     ensures { result ≡ is_around selection.now row.now }
 {
-    match &row.item.shape {
+    let item = row.item.get();
+    match &item.shape {
         Shape::Trace(_) | Shape::Span(_) | Shape::LeftOut(_) => false,
         Shape::Note(note) => {
-            selection.is_failed
-                && row.depth > 0
-                && note_fits(selection, row.item.trace.as_str(), note)
+            selection.is_failed && row.depth > 0 && note_fits(selection, item.trace.as_str(), note)
         }
     }
 }

@@ -4,7 +4,7 @@ ghost use Rattle.std.specs.Prelude.{◌≡◌, ◌∷◌, IfOk, OnOk, option_map
 ghost use Rattle.ttree_otlp.specs.Keyed.{key_of};
 ghost use Rattle.ttree_otlp.specs.Walk.{after_item, begun_walk, entered_at, grouped, innermost_left, is_trace, item_entered, key_in, left_over, next_item, own_key, put_first, row_added, row_opened, rows_in_order, step_count, stepped_times, trace_item, walk_stepped};
 
-use crate::item::{Item, Place, Shape};
+use crate::item::{Item, ItemBox, Place, Shape};
 use crate::keyed::{Group, Groups, key_of, trim};
 use std::alloc::{AllocError, Global};
 use std::marker::Model;
@@ -14,7 +14,7 @@ use tracing_tree_base::text::Text;
 #[derive(Drop)]
 pub(crate) struct Row {
     pub(crate) depth: usize,
-    pub(crate) item: Item,
+    pub(crate) item: ItemBox,
 }
 
 // The rows so far, and what is open.
@@ -42,7 +42,7 @@ impl Model for Walk {
 }
 
 // Returns rows, sorted by their places, in drawing order.
-pub(crate) fn rows_in_order(alloc: Global, items: Vec<Item>) -> Result<Vec<Row>, AllocError>
+pub(crate) fn rows_in_order(alloc: Global, items: Vec<ItemBox>) -> Result<Vec<Row>, AllocError>
     ensures { IfOk result (λ rows. rows.items ≡ rows_in_order items.items) }
 {
     let count = items.len();
@@ -60,7 +60,7 @@ fn step_count(rows: usize) -> u64
 }
 
 // Returns rows grouped by the span that they are nested in.
-fn grouped(alloc: Global, items: Vec<Item>) -> Result<Groups, AllocError>
+fn grouped(alloc: Global, items: Vec<ItemBox>) -> Result<Groups, AllocError>
     ensures { IfOk result (λ groups. groups ≡ grouped items.items) }
 {
     let mut groups = Groups::new(alloc);
@@ -75,17 +75,15 @@ fn grouped(alloc: Global, items: Vec<Item>) -> Result<Groups, AllocError>
 fn key_in(alloc: Global, item: &Item) -> Result<Vec<u8>, AllocError>
     ensures { IfOk result (λ key. key.items ≡ key_in item.now) }
 {
-    key_of(alloc, item.trace.as_str(), item.above.as_str())
+    key_of(alloc, item.trace.as_str(), item.parent.as_str())
 }
 
 // Puts a row before those of its span that are there.
-fn put_first(alloc: Global, groups: &mut Groups, item: Item) -> Result<(), AllocError>
+fn put_first(alloc: Global, groups: &mut Groups, item: ItemBox) -> Result<(), AllocError>
     ensures { OnOk result (groups.new ≡ put_first item groups.old) }
 {
-    let key = key_in(alloc, &item)?;
-    let mut group = groups.take(key.as_slice()).unwrap_or(Group::new(alloc));
-    group.put(item)?;
-    groups.put(key, group)
+    let key = key_in(alloc, item.get())?;
+    groups.put_first(alloc, key, item)
 }
 
 fn is_trace(item: &Item) -> bool
@@ -109,12 +107,12 @@ fn own_key(alloc: Global, item: &Item) -> Result<Option<Vec<u8>>, AllocError>
 }
 
 // Returns the row of a trace at this time.
-fn trace_item(alloc: Global, id: &str, time: u64) -> Result<Item, AllocError>
+fn trace_item(alloc: Global, id: &str, time: u64) -> Result<ItemBox, AllocError>
     ensures { IfOk result (λ item. item ≡ trace_item id.now time) }
 {
-    Ok(Item {
+    let item = Item {
         trace: Text::from_str(alloc, "")?,
-        above: Text::from_str(alloc, "")?,
+        parent: Text::from_str(alloc, "")?,
         place: Place {
             time,
             rank: 1,
@@ -123,7 +121,8 @@ fn trace_item(alloc: Global, id: &str, time: u64) -> Result<Item, AllocError>
         },
         time,
         shape: Shape::Trace(Text::from_str(alloc, id)?),
-    })
+    };
+    ItemBox::new(alloc, item)
 }
 
 impl Walk {
@@ -169,7 +168,7 @@ impl Walk {
     }
 
     // Takes the next row of the innermost span.
-    fn next_item(&mut self) -> Option<Item>
+    fn next_item(&mut self) -> Option<ItemBox>
         ensures item { result ≡ next_item self.old.frames }
         ensures rest { self.new ≡ record self.old { frames = after_item self.old.frames } }
     {
@@ -180,34 +179,34 @@ impl Walk {
     }
 
     // Adds a row, and opens it if rows may be nested in it.
-    fn enter(&mut self, item: Item) -> Result<(), AllocError>
+    fn enter(&mut self, item: ItemBox) -> Result<(), AllocError>
         ensures { OnOk result (self.new ≡ item_entered item self.old) }
     {
-        match own_key(self.alloc, &item)? {
+        match own_key(self.alloc, item.get())? {
             Some(key) => self.enter_key(key.as_slice(), item),
             None => self.add(item),
         }
     }
 
     // Opens a row with the rows nested in it. A trace whose rows were all taken isn't shown.
-    fn enter_key(&mut self, key: &[u8], item: Item) -> Result<(), AllocError>
+    fn enter_key(&mut self, key: &[u8], item: ItemBox) -> Result<(), AllocError>
         ensures { OnOk result (self.new ≡ entered_at key.now item self.old) }
     {
         match self.groups.take(key) {
             Some(group) => self.open(item, group),
-            None if is_trace(&item) => Ok(()),
+            None if is_trace(item.get()) => Ok(()),
             None => self.open(item, Group::new(self.alloc)),
         }
     }
 
-    fn open(&mut self, item: Item, group: Group) -> Result<(), AllocError>
+    fn open(&mut self, item: ItemBox, group: Group) -> Result<(), AllocError>
         ensures { OnOk result (self.new ≡ row_opened item group self.old) }
     {
         self.add(item)?;
         Ok(self.frames.push(group)?)
     }
 
-    fn add(&mut self, item: Item) -> Result<(), AllocError>
+    fn add(&mut self, item: ItemBox) -> Result<(), AllocError>
         ensures { OnOk result (self.new ≡ row_added item self.old) }
     {
         let depth = self.frames.len().saturating_sub(1);

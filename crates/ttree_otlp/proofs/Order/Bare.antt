@@ -74,10 +74,9 @@ bare_or_none (Some group) = refl
 put_bare : (row : Item) (groups : List (List ℕ × List Item)) → put_first (unnumbered row) (with_values bare groups) ≡ with_values bare (put_first row groups)
 put_bare row groups =
     let key = key_in row in
-    ap (λ g. with_kept key (unnumbered row ∷ unwrap_or g []) (without_kept key (with_values bare groups))) (kept_values bare key groups)
-    ∙ ap (λ l. with_kept key (unnumbered row ∷ l) (without_kept key (with_values bare groups))) (bare_or_none (kept_at key groups))
-    ∙ ap (λ l. with_kept key (bare (row ∷ unwrap_or (kept_at key groups) [])) l) (without_values bare key groups)
-    ∙ values_with bare key (row ∷ unwrap_or (kept_at key groups) []) (without_kept key groups)
+    ap (λ g. with_kept key (unnumbered row ∷ unwrap_or g []) (with_values bare groups)) (kept_values bare key groups)
+    ∙ ap (λ l. with_kept key (unnumbered row ∷ l) (with_values bare groups)) (bare_or_none (kept_at key groups))
+    ∙ values_with bare key (row ∷ unwrap_or (kept_at key groups) []) groups
 
 grouped_bare : (rows : List Item) → grouped (bare rows) ≡ with_values bare (grouped rows)
 grouped_bare [] = refl

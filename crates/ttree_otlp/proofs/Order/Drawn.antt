@@ -53,11 +53,11 @@ selected_bare selection (row ∷ rows) =
 
 -- ---- what a cut leaves
 
-lasts_bare_as : (shape : Shape) (min_level : ℕ) (row : Row) → lasts_as shape min_level (bare_row row) ≡ lasts_as shape min_level row
-lasts_bare_as (Trace id) min_level row = refl
-lasts_bare_as (Span span) min_level row = refl
-lasts_bare_as (Note note) min_level row = refl
-lasts_bare_as (LeftOut count) min_level row = refl
+lasts_bare_as : (shape : Shape) (min_time : ℕ) (row : Row) → lasts_as shape min_time (bare_row row) ≡ lasts_as shape min_time row
+lasts_bare_as (Trace id) min_time row = refl
+lasts_bare_as (Span span) min_time row = refl
+lasts_bare_as (Note note) min_time row = refl
+lasts_bare_as (LeftOut count) min_time row = refl
 
 is_drawn_bare : (cut : Cut) (row : Row) (rows : List Row) → is_drawn cut (bare_row row) (map bare_row rows) ≡ is_drawn cut row rows
 is_drawn_bare cut row rows =

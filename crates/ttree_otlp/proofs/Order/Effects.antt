@@ -41,7 +41,7 @@ done_joined [] fs s = refl
 done_joined (e ∷ es) fs s = done_joined es fs (done e s)
 
 abbrev pub trace_row : List ℕ → ℕ → Item
-trace_row trace time = record { trace = []; above = []; place = row_place time (Trace trace) 0; time = time; shape = Trace trace }
+trace_row trace time = record { trace = []; parent = []; place = row_place time (Trace trace) 0; time = time; shape = Trace trace }
 
 -- the rows, with a trace's row each time that it is seen
 abbrev pub raw : List Effect → List ℕ → List Item

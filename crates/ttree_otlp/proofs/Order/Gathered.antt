@@ -34,9 +34,9 @@ held_bare (Some time) row = refl
 
 resolved_bare_as : (shape : Shape) (known : List (List ℕ × ℕ)) (row : Item) → resolved_as shape known (unnumbered row) ≡ unnumbered (resolved_as shape known row)
 resolved_bare_as (Trace id) known row = timed_bare (kept_at (key_of id []) known) row
-resolved_bare_as (Span span) known row = held_bare (kept_at (key_of row.trace row.above) known) row
-resolved_bare_as (Note note) known row = held_bare (kept_at (key_of row.trace row.above) known) row
-resolved_bare_as (LeftOut count) known row = held_bare (kept_at (key_of row.trace row.above) known) row
+resolved_bare_as (Span span) known row = held_bare (kept_at (key_of row.trace row.parent) known) row
+resolved_bare_as (Note note) known row = held_bare (kept_at (key_of row.trace row.parent) known) row
+resolved_bare_as (LeftOut count) known row = held_bare (kept_at (key_of row.trace row.parent) known) row
 
 pub resolved_bare : (known : List (List ℕ × ℕ)) (rows : List Item) → map unnumbered (map (resolved known) rows) ≡ map (resolved known) (map unnumbered rows)
 resolved_bare known [] = refl
@@ -52,9 +52,9 @@ held_shape (Some time) row = refl
 
 resolved_shape_as : (shape : Shape) (known : List (List ℕ × ℕ)) (row : Item) → (resolved_as shape known row).shape ≡ row.shape
 resolved_shape_as (Trace id) known row = timed_shape (kept_at (key_of id []) known) row
-resolved_shape_as (Span span) known row = held_shape (kept_at (key_of row.trace row.above) known) row
-resolved_shape_as (Note note) known row = held_shape (kept_at (key_of row.trace row.above) known) row
-resolved_shape_as (LeftOut count) known row = held_shape (kept_at (key_of row.trace row.above) known) row
+resolved_shape_as (Span span) known row = held_shape (kept_at (key_of row.trace row.parent) known) row
+resolved_shape_as (Note note) known row = held_shape (kept_at (key_of row.trace row.parent) known) row
+resolved_shape_as (LeftOut count) known row = held_shape (kept_at (key_of row.trace row.parent) known) row
 
 resolved_trace : (known : List (List ℕ × ℕ)) (row : Item) → trace_id (resolved known row).shape ≡ trace_id row.shape
 resolved_trace known row = ap trace_id (resolved_shape_as row.shape known row)
@@ -69,9 +69,9 @@ held_index (Some time) row = refl
 
 resolved_index_as : (shape : Shape) (known : List (List ℕ × ℕ)) (row : Item) → (resolved_as shape known row).place.index ≡ row.place.index
 resolved_index_as (Trace id) known row = timed_index (kept_at (key_of id []) known) row
-resolved_index_as (Span span) known row = held_index (kept_at (key_of row.trace row.above) known) row
-resolved_index_as (Note note) known row = held_index (kept_at (key_of row.trace row.above) known) row
-resolved_index_as (LeftOut count) known row = held_index (kept_at (key_of row.trace row.above) known) row
+resolved_index_as (Span span) known row = held_index (kept_at (key_of row.trace row.parent) known) row
+resolved_index_as (Note note) known row = held_index (kept_at (key_of row.trace row.parent) known) row
+resolved_index_as (LeftOut count) known row = held_index (kept_at (key_of row.trace row.parent) known) row
 
 resolved_numbered : (known : List (List ℕ × ℕ)) (n : ℕ) (rows : List Item) → AreNumbered n rows → AreNumbered n (map (resolved known) rows)
 resolved_numbered known n [] h = tt
@@ -112,7 +112,7 @@ rows_numbered es = resolved_numbered (all_done es nothing_gathered).known 0 (all
 abbrev pub canon : List (List ℕ × ℕ) → List ℕ → Item
 canon known id =
     let time = unwrap_or (kept_at (key_of id []) known) 0 in
-    record { trace = []; above = []; place = row_place time (Trace id) 0; time = time; shape = Trace id }
+    record { trace = []; parent = []; place = row_place time (Trace id) 0; time = time; shape = Trace id }
 
 abbrev pub IsThere : List (List ℕ × ℕ) → Effect → Type 0
 IsThere known (Row row) = ⊤
@@ -125,7 +125,7 @@ IsThere known Line = ⊤
 canon_timed : (known : List (List ℕ × ℕ)) (trace : List ℕ) (time : ℕ) → is_some (kept_at (key_of trace []) known) ≡ true → resolved known (trace_row trace time) ≡ canon known trace
 canon_timed known trace time h = by (kept_at (key_of trace []) known) h where
   by : (o : Option ℕ) → is_some o ≡ true
-      → at_earliest o (trace_row trace time) ≡ (let t = unwrap_or o 0 in record { trace = []; above = []; place = row_place t (Trace trace) 0; time = t; shape = Trace trace })
+      → at_earliest o (trace_row trace time) ≡ (let t = unwrap_or o 0 in record { trace = []; parent = []; place = row_place t (Trace trace) 0; time = t; shape = Trace trace })
   by (Some first) there = refl
   by None there = absurd (true≢false (sym there))
 

@@ -35,7 +35,7 @@ key_itself key = by (cmp key key) refl where
 pub is_key_itself : (key : List ℕ) → is_key key key ≡ true
 is_key_itself key = ap is_eq (key_itself key)
 
-further : (key first : List ℕ) (keys : List (List ℕ)) → cmp key first ≡ Less → AllByRecursion (λ y. cmp first y ≡ Less) keys → AllByRecursion (λ y. cmp key y ≡ Less) keys
+pub further : (key first : List ℕ) (keys : List (List ℕ)) → cmp key first ≡ Less → AllByRecursion (λ y. cmp first y ≡ Less) keys → AllByRecursion (λ y. cmp key y ≡ Less) keys
 further key first [] h k = tt
 further key first (y ∷ keys) h k = (nat_list_cmp_total.trans key first y h k.0, further key first keys h k.1)
 

@@ -4,7 +4,7 @@ use Rattle.std.specs.Prelude.{⊤}
 use Rattle.std.specs.List.{AllByRecursion}
 use Rattle.json.specs.Json.{Json, Items, no_items, item, document}
 use Rattle.json.specs.Find.{get}
-use Rattle.ttree_otlp.specs.Item.{above_of, event_note, failed_note, link_note, log_note, log_time, span_read, unfinished_note}
+use Rattle.ttree_otlp.specs.Item.{parent_of, event_note, failed_note, link_note, log_note, log_time, span_read, unfinished_note}
 use Rattle.ttree_otlp.specs.Named.{status_is_error}
 use Rattle.ttree_otlp.specs.Read.{count_at, id_at, items_at, service_in}
 use Rattle.ttree_source.specs.Blanks.{first_byte}
@@ -92,7 +92,7 @@ row_runs row h = record { effects = Row row ∷ []; is = λ s. refl; plain = λ 
 
 -- a row of an event, a link and so on
 abbrev row_of : List ℕ → List ℕ → ℕ → ℕ → Shape → Item
-row_of trace above order time shape = record { trace = trace; above = above; place = row_place order shape 0; time = time; shape = shape }
+row_of trace parent order time shape = record { trace = trace; parent = parent; place = row_place order shape 0; time = time; shape = shape }
 
 link_runs : (trace span : List ℕ) (time : ℕ) (value : Json) → Runs (λ s. row_gathered trace span 0 time (Note (link_note s.service value)) s)
 link_runs trace span time value = row_runs (λ service. row_of trace span 0 time (Note (link_note service value))) (λ service. refl)
@@ -138,7 +138,7 @@ span_added_runs : (trace id : List ℕ) (value : Json) → (id ≡ [] → ⊥) �
 span_added_runs trace id value full =
     let start = count_at (codes "startTimeUnixNano") value in
     let notes = notes_run trace id value in
-    let row : List ℕ → Item = λ service. row_of trace (above_of id (id_at (codes "parentSpanId") value)) start start (Span (span_read service value)) in
+    let row : List ℕ → Item = λ service. row_of trace (parent_of id (id_at (codes "parentSpanId") value)) start start (Span (span_read service value)) in
     let inside : GatheredState → GatheredState = λ s. note_known (key_of trace id) start (trace_seen trace start s) in
     record {
       effects = Seen trace start ∷ Known trace id start ∷ (notes.effects ++ Row row ∷ []);

@@ -203,9 +203,9 @@ IsClear row = ClearAs (trace_id row.shape)
 module _ (one other : List (List ℕ × ℕ)) (there : (q : List ℕ) → is_some (kept_at q one) ≡ is_some (kept_at q other)) (times : (trace : List ℕ) → has_space trace ≡ false → kept_at (key_of trace []) one ≡ kept_at (key_of trace []) other) where
   resolved_alike_as : (shape : Shape) (row : Item) → ClearAs (trace_id shape) → resolved_as shape one row ≡ resolved_as shape other row
   resolved_alike_as (Trace id) row clear = ap (λ o. at_earliest o row) (times id clear)
-  resolved_alike_as (Span span) row clear = held_by _ _ row (there (key_of row.trace row.above))
-  resolved_alike_as (Note note) row clear = held_by _ _ row (there (key_of row.trace row.above))
-  resolved_alike_as (LeftOut count) row clear = held_by _ _ row (there (key_of row.trace row.above))
+  resolved_alike_as (Span span) row clear = held_by _ _ row (there (key_of row.trace row.parent))
+  resolved_alike_as (Note note) row clear = held_by _ _ row (there (key_of row.trace row.parent))
+  resolved_alike_as (LeftOut count) row clear = held_by _ _ row (there (key_of row.trace row.parent))
 
   pub resolved_alike : (rows : List Item) → AllByRecursion IsClear rows → map (resolved one) rows ≡ map (resolved other) rows
   resolved_alike [] h = refl
