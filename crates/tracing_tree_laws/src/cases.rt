@@ -13,10 +13,10 @@ use std::alloc::{AllocError, Global};
 use tracing_tree_time::Moment;
 use ttree_junit::{Selection, Tally, junit_calls};
 
-/// Over any document, each `testcase` is shown once, in the order in which they end: as one event
+/// Over any document, each `testcase` is shown once, in the order of their ends: as one event
 /// with its outcome and its name, or as one span of its name, with the events of its parts and its
-/// outcome last. None is lost, and none is shown twice. The same holds for failures and output
-/// outside of cases, and for text around the document.
+/// outcome last. This also holds for failures and output outside of cases, and for characters
+/// around the document.
 pub fn each_case_of_junit_is_shown_once()
     ensures { (next : ℕ) (moment : Moment) (text : List ℕ) →
         EachCaseIsShownOnce moment text (document_calls All next moment text) }

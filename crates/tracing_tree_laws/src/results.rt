@@ -17,10 +17,10 @@ use tracing_tree_time::{FormatTime, Moment};
 use ttree_source::{Notes, draw_source};
 use ttree_tap::{Tally, Tap};
 
-/// Over any lines of TAP, each result is one event, in order, with its outcome and its description:
-/// none is lost, and none is shown twice. The same holds for comments, lines of blocks, printed
-/// lines and what prove says of files. Each other event is an error, and doesn't look like a
-/// result. No result may end with ` {`, which opens a subtest in TAP of Perl.
+/// Over any lines of TAP, each result is exactly one event, in order, with its outcome and its
+/// description. This also holds for comments, lines of blocks, printed lines and what prove says
+/// of files. Each other event is an error, and doesn't look like a result. No result may end with
+/// ` {`, which opens a subtest in TAP of Perl.
 pub fn each_result_of_tap_is_shown_once()
     ensures { (next : ℕ) (moment : Moment) (lines : List (List ℕ)) → has_braces lines ≡ false →
         EachResultIsShownOnce next lines
@@ -36,8 +36,8 @@ pub fn the_counts_of_tap_are_those_of_its_results()
         ≡ counted (results_of lines) no_outcomes }
 {}
 
-/// After any such lines, the tests have failed exactly if a result is `not ok`, and neither skipped
-/// nor TODO, or if something else failed: a plan, a missing number, a subtest without a result,
+/// After any such lines, the tests have failed exactly if a result is `not ok` and isn't skipped or
+/// TODO, or if something else failed: a plan, a missing number, a subtest without a result,
 /// `Bail out!`, or a verdict of prove.
 pub fn tap_fails_by_a_result()
     ensures { (is_failed_only : Bool) (next : ℕ) (moment : Moment) (lines : List (List ℕ)) →

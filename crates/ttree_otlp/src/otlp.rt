@@ -76,7 +76,7 @@ pub fn run_otlp<W: Output, FT: FormatTime, N: Notes>(
 /// What was read of an input.
 #[derive(Drop)]
 pub struct OtlpRead {
-    /// What is to be drawn, or what ended the reading.
+    /// What will be drawn, or what ended the reading.
     pub tree: Result<OtlpTree, LineCause>,
 
     /// How many of its lines and spans were skipped.

@@ -16,7 +16,7 @@ use tracing_tree_lines::lines::LineCause;
 use tracing_tree_time::Moment;
 use ttree_source::run::make;
 
-/// What was read of an input and is to be drawn.
+/// What was read of an input and will be drawn.
 ///
 /// It has the calls of one row after another and frees each row with its calls, so that drawing
 /// takes little more memory than reading.
