@@ -177,7 +177,8 @@ class Gate:
         data = f"{TOP}/crates/test_cases/data"
         lines = [f"{TOP}/examples/first.jsonl", f"{data}/drawing/two_lines_in_close.in", f"{data}/drawing/no_lines_two_lines.in"]
         self.programs("scripts/refuse.py", "tracing_tree_cli", more=[shim, *lines])
-        self.programs("scripts/refuse.py", "ttree", more=[shim, f"{TOP}/examples/go-test.jsonl", f"{TOP}/examples/uftrace.json"])
+        samples = [f"{TOP}/examples/{it}" for it in ("go-test.jsonl", "uftrace.json", "otlp-shop.jsonl")]
+        self.programs("scripts/refuse.py", "ttree", more=[shim, *samples])
         return self.programs("scripts/refuse.py", "tracing_tree_read", more=[shim, f"{data}/first/tree.out"])
 
     def bindings(self):
