@@ -98,7 +98,8 @@ fn refusal(
     Some(refuse_option(rt, origin, option, "--html and --json"))
 }
 
-// Shows the input, whose format is known.
+// Shows the input, whose format is known. What shows a format isn't inlined, so that the stack has the
+// frame of only one.
 fn draw_format<R: AllocGlobal + Eprint + Print, I: Read + Drop>(
     rt: &R,
     origin: Origin<'_>,
@@ -124,6 +125,7 @@ fn draw_format<R: AllocGlobal + Eprint + Print, I: Read + Drop>(
 }
 
 // Shows lines of settings and calls.
+#[inline(never)]
 fn show_calls<R: AllocGlobal + Eprint + Print, I: Read + Drop>(
     rt: &R,
     origin: Origin<'_>,
@@ -191,6 +193,7 @@ fn draw_preamble<R: AllocGlobal + Eprint + Print>(
 }
 
 // Shows the lines of Go's tests. The status is 1 also if one failed.
+#[inline(never)]
 fn draw_tests<R: AllocGlobal + Eprint + Print, I: Read + Drop>(
     rt: &R,
     origin: Origin<'_>,
@@ -239,6 +242,7 @@ fn with_tests(status: Status, has_failed: bool) -> Status {
 }
 
 // Shows the lines of Rust's tracing.
+#[inline(never)]
 fn draw_tracing<R: AllocGlobal + Eprint + Print, I: Read + Drop>(
     rt: &R,
     origin: Origin<'_>,
@@ -258,6 +262,7 @@ fn draw_tracing<R: AllocGlobal + Eprint + Print, I: Read + Drop>(
 }
 
 // Shows the lines of a service's JSON logs.
+#[inline(never)]
 fn draw_logs<R: AllocGlobal + Eprint + Print, I: Read + Drop>(
     rt: &R,
     origin: Origin<'_>,
@@ -275,6 +280,7 @@ fn draw_logs<R: AllocGlobal + Eprint + Print, I: Read + Drop>(
 }
 
 // Shows the lines of TAP. The status is 1 also if a test failed.
+#[inline(never)]
 fn draw_tap<R: AllocGlobal + Eprint + Print, I: Read + Drop>(
     rt: &R,
     origin: Origin<'_>,
@@ -327,6 +333,7 @@ fn draw_lines<R: AllocGlobal + Eprint + Print, I: Read + Drop, S: Source + Drop>
 }
 
 // Shows a document, which is read whole first.
+#[inline(never)]
 fn draw_document<R: AllocGlobal + Eprint + Print, I: Read + Drop>(
     rt: &R,
     origin: Origin<'_>,
