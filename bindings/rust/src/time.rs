@@ -168,7 +168,7 @@ impl LocalDateTime {
         fits.then_some(LocalDateTime { offset: seconds, higher_precision: false })
     }
 
-    /// Returns a timer at the machine's offset from UTC as it is now. Returns `None` if the offset
+    /// Returns a timer at the machine's current offset from UTC. Returns `None` if the offset
     /// can't be read, which includes a process of several threads: another thread could change the
     /// environment that has the time zone. So call it first in `main`.
     #[cfg(feature = "local-offset")]

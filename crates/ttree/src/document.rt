@@ -41,7 +41,7 @@ impl Document for Whole {
 // What was read of a document.
 #[derive(Drop)]
 pub struct DocumentRead<D> {
-    // What is to be drawn, or what ended the reading.
+    // What will be drawn, or what ended the reading.
     pub document: Result<D, LineCause>,
 
     // How many of its parts were skipped.

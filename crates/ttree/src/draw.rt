@@ -98,8 +98,8 @@ fn refusal(
     Some(refuse_option(rt, origin, option, "--html and --json"))
 }
 
-// Shows the input, whose format is known. What shows a format isn't inlined, so that the stack has the
-// frame of only one.
+// Shows the input, whose format is known. What shows a format isn't inlined, so that the stack has
+// the frame of only one.
 fn draw_format<R: AllocGlobal + Eprint + Print, I: Read + Drop>(
     rt: &R,
     origin: Origin<'_>,

@@ -19,8 +19,8 @@ calls_of_tree tree =
 abbrev pub steps_left : TreeView → ℕ
 steps_left tree = if tree.is_ended then 0 else length tree.rows + 1
 
--- The first of the calls that are left, and the others. There is nothing to return at the end.
+-- The first of the calls that are left, and the others stay. At the end nothing changes.
 abbrev pub ReturnsCalls : Option (List Call) → TreeView → TreeView → Type 0
-ReturnsCalls None old new = calls_of_tree old ≡ []
+ReturnsCalls None old new = (calls_of_tree old ≡ []) × (new ≡ old)
 ReturnsCalls (Some calls) old new =
     (calls_of_tree old ≡ calls ++ calls_of_tree new) × (steps_left new < steps_left old)
